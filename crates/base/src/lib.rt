@@ -5,6 +5,10 @@ ghost use Rattle.std.specs.Prelude.{◌≡◌, ◌+◌, ◌≤◌, length};
 ghost use Rattle.std.proofs.lemmas.List.Edits.{sets};
 ghost use Rattle.base.specs.Le.{le_at, le_bytes};
 
+mod refusal;
+
+pub use refusal::Refusal;
+
 // The number of the two bytes from `at` on.
 pub fn read_u16(s: &[u8], at: usize) -> u16
     requires { at + 2 ≤ length s.now }
@@ -61,9 +65,7 @@ pub fn copy_to(s: &mut [u8], at: usize, from: &[u8])
     requires { at + length from.now ≤ length s.old }
     ensures { s.new ≡ sets s.old at from.now }
 {
-    let mut i: usize = 0;
-    while i < from.len() {
+    for i in 0..from.len() {
         s[at + i] = from[i];
-        i = i + 1;
     }
 }

@@ -7,6 +7,7 @@ ghost use Rattle.calendar_windows.specs.Calendar.{week, windows, good_calendar, 
 ghost use Rattle.calendar_question.specs.Answers.{as_open, as_next_open};
 ghost use Rattle.calendar_windows.specs.Free.{Free};
 
+use base::Refusal;
 use calendar_windows::WEEK;
 
 // The most words of a calendar: 64 windows, two each.
@@ -14,22 +15,6 @@ pub const MAX_WORDS: usize = 128;
 
 // The last second of the count.
 const LAST_SECOND: u64 = 18446744073709551615;
-
-// Whether loading is open.
-#[derive(Clone, Copy)]
-pub enum OpenAnswer {
-    Open,
-    Closed,
-    Refused(u64),
-}
-
-// The first open second at or after a time.
-#[derive(Clone, Copy)]
-pub enum NextOpenAnswer {
-    Found(u64),
-    NoneLeft,
-    Refused(u64),
-}
 
 // Whether the windows are at most 64, each in the week, ascending and disjoint. Windows may touch.
 pub fn is_good(calendar: &[u64]) -> bool
@@ -62,17 +47,17 @@ pub fn is_good(calendar: &[u64]) -> bool
 }
 
 // Whether loading is open at a time.
-pub fn is_open(calendar: &[u64], time: u64) -> OpenAnswer
+pub fn is_open(calendar: &[u64], time: u64) -> Result<bool, Refusal>
     ensures { as_open result ≡ ask_open calendar.now time }
 {
     if !is_good(calendar) {
-        return OpenAnswer::Refused(59);
+        return Err(Refusal::BrokenCalendar);
     }
     let second = calendar_windows::week_second(time);
     if calendar_windows::free_from(calendar, second) == second {
-        return OpenAnswer::Open;
+        return Ok(true);
     }
-    OpenAnswer::Closed
+    Ok(false)
 }
 
 // The seconds from a time to the first open one, where `opening` is the first second of the week that lies in no window.
@@ -89,19 +74,19 @@ fn wait(calendar: &[u64], time: u64, opening: u64) -> u64
 }
 
 // The first open second at or after a time, or none.
-pub fn next_open(calendar: &[u64], time: u64) -> NextOpenAnswer
+pub fn next_open(calendar: &[u64], time: u64) -> Result<Option<u64>, Refusal>
     ensures { as_next_open result ≡ ask_next_open calendar.now time }
 {
     if !is_good(calendar) {
-        return NextOpenAnswer::Refused(59);
+        return Err(Refusal::BrokenCalendar);
     }
     let opening = calendar_windows::free_from(calendar, 0);
     if WEEK <= opening {
-        return NextOpenAnswer::NoneLeft;
+        return Ok(None);
     }
     let seconds = wait(calendar, time, opening);
     if LAST_SECOND - time < seconds {
-        return NextOpenAnswer::NoneLeft;
+        return Ok(None);
     }
-    NextOpenAnswer::Found(time + seconds)
+    Ok(Some(time + seconds))
 }

@@ -1,10 +1,10 @@
 // The edge cards of document 01 that are run, a line each: what the engine answers.
 #![tactic(auto)]
 
-use committee::{AuthorityIndex, NewCommittee, Stake};
+use committee::{AuthorityIndex, Stake};
 use committee_aggregator::StakeAggregator;
 use committee_set::AuthoritySet;
-use committee_vote_answer::AddAnswer;
+use committee_vote_answer::Vote;
 use std::io;
 
 fn print(rt: &impl Print, text: &[u8]) -> io::Result<()> {
@@ -19,13 +19,13 @@ fn print_number(rt: &impl Print, n: u64) -> io::Result<()> {
 fn set(rt: &impl Print, card: &[u8], stakes: &[u64]) -> io::Result<()> {
     print(rt, card)?;
     match committee::new_committee(stakes) {
-        NewCommittee::Taken(total) => {
+        Ok(total) => {
             print(rt, b": taken, total ")?;
             print_number(rt, total.0)?;
         }
-        NewCommittee::Broken(number) => {
+        Err(refusal) => {
             print(rt, b": refused ")?;
-            print_number(rt, number)?;
+            print_number(rt, refusal.number())?;
         }
     }
     print(rt, b"\n")
@@ -43,18 +43,18 @@ fn add(
     let added = aggregator.add(stakes, AuthorityIndex(vote));
     let answer = added.answer;
     match answer {
-        AddAnswer::RepeatedBelow => print(rt, b": repeated below quorum")?,
-        AddAnswer::RepeatedWith => print(rt, b": repeated with quorum")?,
-        AddAnswer::NewBelow => print(rt, b": new below quorum")?,
-        AddAnswer::NewWith(crossed) => {
+        Ok(Vote::RepeatedBelow) => print(rt, b": repeated below quorum")?,
+        Ok(Vote::RepeatedWith) => print(rt, b": repeated with quorum")?,
+        Ok(Vote::NewBelow) => print(rt, b": new below quorum")?,
+        Ok(Vote::NewWith(crossed)) => {
             print(rt, b": new with quorum")?;
             if crossed {
                 print(rt, b", crossed by it")?;
             }
         }
-        AddAnswer::Refused(number) => {
+        Err(refusal) => {
             print(rt, b": refused ")?;
-            print_number(rt, number)?;
+            print_number(rt, refusal.number())?;
         }
     }
     print(rt, b", stake ")?;

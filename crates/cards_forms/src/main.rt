@@ -1,14 +1,12 @@
 // The forms over a reference beside the calls by value, a line for each card: the two answers are the same.
 #![tactic(auto)]
 
+use base::Refusal;
 use committee::{AuthorityIndex, RoundNumber, Stake};
 use committee_aggregator::{Added, StakeAggregator};
 use committee_set::AuthoritySet;
-use committee_vote_answer::AddAnswer;
-use feed_single::FeedAnswer;
-use final_question::FinalityAnswer;
-use list_after::MaybeLocator;
-use list_next::NextFinalAnswer;
+use committee_vote_answer::Vote;
+use final_question::FinalOrNot;
 use std::io;
 use types::{BlockDigest, BlockReference, TransactionLocator};
 
@@ -20,9 +18,9 @@ fn print_number(rt: &impl Print, n: u64) -> io::Result<()> {
     rt.print(n)
 }
 
-fn print_refused(rt: &impl Print, number: u64) -> io::Result<()> {
+fn print_refused(rt: &impl Print, refusal: Refusal) -> io::Result<()> {
     print(rt, b"refused ")?;
-    print_number(rt, number)
+    print_number(rt, refusal.number())
 }
 
 // ---- adding a vote
@@ -30,16 +28,16 @@ fn print_refused(rt: &impl Print, number: u64) -> io::Result<()> {
 fn print_added(rt: &impl Print, added: Added) -> io::Result<()> {
     let answer = added.answer;
     match answer {
-        AddAnswer::RepeatedBelow => print(rt, b"repeated below quorum")?,
-        AddAnswer::RepeatedWith => print(rt, b"repeated with quorum")?,
-        AddAnswer::NewBelow => print(rt, b"new below quorum")?,
-        AddAnswer::NewWith(crossed) => {
+        Ok(Vote::RepeatedBelow) => print(rt, b"repeated below quorum")?,
+        Ok(Vote::RepeatedWith) => print(rt, b"repeated with quorum")?,
+        Ok(Vote::NewBelow) => print(rt, b"new below quorum")?,
+        Ok(Vote::NewWith(crossed)) => {
             print(rt, b"new with quorum")?;
             if crossed {
                 print(rt, b", crossed by it,")?;
             }
         }
-        AddAnswer::Refused(number) => print_refused(rt, number)?,
+        Err(refusal) => print_refused(rt, refusal)?,
     }
     print(rt, b" with ")?;
     print_number(rt, added.aggregator.votes.low)?;
@@ -110,30 +108,37 @@ fn refused_votes(rt: &impl Print) -> io::Result<()> {
 
 // ---- questions
 
-fn print_finality(rt: &impl Print, answer: FinalityAnswer, positions: &[u64; 4]) -> io::Result<()> {
+fn print_finality(
+    rt: &impl Print,
+    answer: Result<FinalOrNot, Refusal>,
+    positions: &[u64; 4],
+) -> io::Result<()> {
     match answer {
-        FinalityAnswer::Final(count) => {
+        Ok(FinalOrNot::Final(count)) => {
             print(rt, b"final, blocks ")?;
             print_number(rt, count)?;
         }
-        FinalityAnswer::NotFinal(count) => {
+        Ok(FinalOrNot::NotFinal(count)) => {
             print(rt, b"not final, blocks ")?;
             print_number(rt, count)?;
         }
-        FinalityAnswer::Refused(number) => print_refused(rt, number)?,
+        Err(refusal) => print_refused(rt, refusal)?,
     }
     print(rt, b", first position ")?;
     print_number(rt, positions[0])
 }
 
-fn print_next(rt: &impl Print, answer: NextFinalAnswer) -> io::Result<()> {
+fn print_next(
+    rt: &impl Print,
+    answer: Result<Option<TransactionLocator>, Refusal>,
+) -> io::Result<()> {
     match answer {
-        NextFinalAnswer::Found(locator) => {
+        Ok(Some(locator)) => {
             print(rt, b"offset ")?;
             print_number(rt, locator.offset)?;
         }
-        NextFinalAnswer::NoneLeft => print(rt, b"none")?,
-        NextFinalAnswer::Refused(number) => print_refused(rt, number)?,
+        Ok(None) => print(rt, b"none")?,
+        Err(refusal) => print_refused(rt, refusal)?,
     }
     Ok(())
 }
@@ -173,7 +178,7 @@ fn next_final(
     card: &[u8],
     stakes: &[u64],
     store: &[u8],
-    after: MaybeLocator,
+    after: Option<TransactionLocator>,
 ) -> io::Result<()> {
     print(rt, card)?;
     print(rt, b": by value ")?;
@@ -183,13 +188,13 @@ fn next_final(
     print(rt, b"\n")
 }
 
-fn print_fed(rt: &impl Print, answer: FeedAnswer) -> io::Result<()> {
+fn print_fed(rt: &impl Print, answer: Result<u64, Refusal>) -> io::Result<()> {
     match answer {
-        FeedAnswer::Events(count) => {
+        Ok(count) => {
             print(rt, b"fed, events ")?;
             print_number(rt, count)?;
         }
-        FeedAnswer::Refused(number) => print_refused(rt, number)?,
+        Err(refusal) => print_refused(rt, refusal)?,
     }
     print(rt, b"\n")
 }
@@ -198,22 +203,10 @@ fn ask(rt: &impl Print, stakes: &[u64], store: &[u8], broken: &[u8]) -> io::Resu
     finality(rt, b"the first share", stakes, store, 0)?;
     finality(rt, b"no share", stakes, store, 2)?;
     finality(rt, b"no store", stakes, broken, 0)?;
-    next_final(rt, b"from the start", stakes, store, MaybeLocator::Nothing)?;
-    next_final(
-        rt,
-        b"after the first share",
-        stakes,
-        store,
-        MaybeLocator::Locator(share(0)),
-    )?;
-    next_final(
-        rt,
-        b"after the last",
-        stakes,
-        store,
-        MaybeLocator::Locator(share(1)),
-    )?;
-    next_final(rt, b"no store", stakes, broken, MaybeLocator::Nothing)
+    next_final(rt, b"from the start", stakes, store, None)?;
+    next_final(rt, b"after the first share", stakes, store, Some(share(0)))?;
+    next_final(rt, b"after the last", stakes, store, Some(share(1)))?;
+    next_final(rt, b"no store", stakes, broken, None)
 }
 
 // A sole owner's block of round 0, and one of round 1 that includes it and has two shares.

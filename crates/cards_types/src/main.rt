@@ -5,8 +5,7 @@
 ghost use Rattle.std.specs.Prelude.{◌≡◌, true};
 ghost use Rattle.record_spec.specs.Record.{well_formed};
 
-use committee::NewCommittee;
-use record_shared_ranges::SharedRange;
+use base::Refusal;
 use std::io;
 
 fn print(rt: &impl Print, text: &[u8]) -> io::Result<()> {
@@ -17,18 +16,15 @@ fn print_number(rt: &impl Print, n: u64) -> io::Result<()> {
     rt.print(n)
 }
 
-// The first refusal of a record by itself, or 0.
-fn verify(stakes: &[u64], rec: &[u8]) -> u64 {
-    let NewCommittee::Taken(total) = committee::new_committee(stakes) else {
-        return 5;
+// The first refusal of a record by itself, or none.
+fn verify(stakes: &[u64], rec: &[u8]) -> Result<(), Refusal> {
+    let Ok(total) = committee::new_committee(stakes) else {
+        return Err(Refusal::BrokenCommittee);
     };
     if !record_reader::well_formed(rec) {
-        return 20;
+        return Err(Refusal::Malformed);
     }
-    let refused = record_clock::head_refusal(stakes, rec);
-    if refused != 0 {
-        return refused;
-    }
+    record_clock::head_refusal(stakes, rec)?;
     record_clock::body_refusal(stakes, total, rec)
 }
 
@@ -36,13 +32,13 @@ fn verify(stakes: &[u64], rec: &[u8]) -> u64 {
 fn judge(rt: &impl Print, card: &[u8], rec: &[u8]) -> io::Result<()> {
     let sole = [1u64];
     print(rt, card)?;
-    let refused = verify(&sole, rec);
-    if refused == 0 {
-        print(rt, b": taken\n")?;
-    } else {
-        print(rt, b": refused ")?;
-        print_number(rt, refused)?;
-        print(rt, b"\n")?;
+    match verify(&sole, rec) {
+        Ok(()) => print(rt, b": taken\n")?,
+        Err(refusal) => {
+            print(rt, b": refused ")?;
+            print_number(rt, refusal.number())?;
+            print(rt, b"\n")?;
+        }
     }
     Ok(())
 }
@@ -50,12 +46,10 @@ fn judge(rt: &impl Print, card: &[u8], rec: &[u8]) -> io::Result<()> {
 // At how many lengths a record that is cut is well formed.
 fn formed_lengths(rec: &[u8]) -> u64 {
     let mut formed: u64 = 0;
-    let mut n: usize = 0;
-    while n < rec.len() {
+    for n in 0..rec.len() {
         if record_reader::well_formed(&rec[0..n]) {
             formed += 1;
         }
-        n += 1;
     }
     formed
 }
@@ -73,13 +67,11 @@ fn print_runs(rt: &impl Print, rec: &[u8]) -> io::Result<()>
 {
     let mut cursor = record_cursor::first_statement(rec);
     loop {
-        let SharedRange::Run(start, end, next) = record_shared_ranges::next_shared_range(
-            rec, cursor,
-        ) else {
+        let Some(run) = record_shared_ranges::next_shared_range(rec, cursor) else {
             return Ok(());
         };
-        print_run(rt, start, end)?;
-        cursor = next;
+        print_run(rt, run.start, run.end)?;
+        cursor = run.next;
     }
 }
 

@@ -1,7 +1,7 @@
 -- `add`, case by case, as the code tells the cases apart. Assumes nothing.
 use mathlib.Core.Path.{◌≡◌}
 use mathlib.Core.Bool.{true, false}
-use Prim.Native.Nat.{ℕ, ◌+◌, ◌<◌}
+use Prim.Native.Nat.{◌+◌, ◌<◌}
 use native.Mathlib.Omega.{arith}
 use borrow.Author.Tests.{eqb-true}
 use Rattle.base.specs.Lists.{all_of}
@@ -14,15 +14,17 @@ use Rattle.committee_aggregator.specs.StakeAggregator.{StakeAggregator, counted,
 use Rattle.committee_vote_answer.specs.Answers.{as_add_answer}
 use Rattle.committee_aggregator.specs.Answers.{as_aggregator, as_added}
 use Rattle.committee_aggregator.specs.declared.StakeAggregator as code-aggregator
-use Rattle.committee_vote_answer.specs.declared.AddAnswer.{AddAnswer}
-use Rattle.committee_vote_answer.specs.declared.AddAnswer.TheVariants.{Refused}
 use Rattle.committee_aggregator.specs.declared.Added as code-added
 use Rattle.committee.proofs.Bounds.{few_members, known_below, total_most, member_most}
 use Rattle.committee_set.proofs.Sums.{stake_most}
+use Rattle.std.specs.Prelude.{Ok, Err}
+use Rattle.base.specs.Refusals.{refusal_number}
+use Rattle.base.specs.declared.refusal.Refusal.{Refusal}
+use Rattle.committee_vote_answer.specs.declared.Vote.{Vote}
 
 -- what the code answers where it refuses
-pub refused_sound : (d : code-added.Added) (g : code-aggregator.StakeAggregator) (n : ℕ) → (d.answer ≡ Refused n) × (d.aggregator ≡ g) → as_added d ≡ record
-    { answer = refused n; aggregator = as_aggregator g }
+pub refused_sound : (d : code-added.Added) (g : code-aggregator.StakeAggregator) (n : Refusal) → (d.answer ≡ Err n) × (d.aggregator ≡ g) → as_added d ≡ record
+    { answer = refused (refusal_number n); aggregator = as_aggregator g }
 unfolding as_added as_add_answer
 refused_sound d g n e = rw (e.0, e.1)
 
@@ -52,8 +54,8 @@ module _ (c : Committee) (g : StakeAggregator) (a : AuthorityIndex) where
       (omega (arith, few_members c h, known_below c a l), omega (arith, held, stake_most c g.votes, member_most c a, total_most c h))
 
   -- what the code answers once the vote is counted
-  pub added_sound : (n : code-aggregator.StakeAggregator) (r : AddAnswer) → broken c ≡ false → aggregator_in_order c g ≡ true → known c a ≡ true
-      → as_aggregator n ≡ counted c g a → as_add_answer r ≡ answered (told_of (member g.votes a) (is_quorum c g.stake) (is_quorum c n.stake.0))
-      → as_added (record { answer = r; aggregator = n }) ≡ add c g a
+  pub added_sound : (n : code-aggregator.StakeAggregator) (r : Vote) → broken c ≡ false → aggregator_in_order c g ≡ true → known c a ≡ true
+      → as_aggregator n ≡ counted c g a → as_add_answer (Ok r) ≡ answered (told_of (member g.votes a) (is_quorum c g.stake) (is_quorum c n.stake.0))
+      → as_added (record { answer = Ok r; aggregator = n }) ≡ add c g a
   unfolding as_added told has_quorum
   added_sound n r h k l e f = rw (f, add_counts h k l, ← e)

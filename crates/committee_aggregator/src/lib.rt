@@ -1,7 +1,7 @@
 // The aggregator of stake. Follows `StakeAggregator` of committee.rs.
 #![tactic(auto)]
 
-ghost use Rattle.std.specs.Prelude.{◌≡◌, false, ◌+◌, ◌<◌};
+ghost use Rattle.std.specs.Prelude.{◌≡◌, Err, false, ◌+◌, ◌<◌};
 ghost use Rattle.base.specs.Lists.{all_of};
 ghost use Rattle.committee.specs.Committee.{broken, known};
 ghost use Rattle.committee_set.specs.AuthoritySet.{members};
@@ -10,9 +10,10 @@ ghost use Rattle.committee_vote_answer.specs.Answers.{as_add_answer};
 ghost use Rattle.committee_aggregator.specs.Answers.{as_aggregator, as_added};
 ghost use Rattle.committee_aggregator.specs.Claims.{Claims};
 
-use committee::{AuthorityIndex, FoundStake, NewCommittee, Stake};
+use base::Refusal;
+use committee::{AuthorityIndex, Stake};
 use committee_set::AuthoritySet;
-use committee_vote_answer::AddAnswer;
+use committee_vote_answer::Vote;
 
 // The authorities that voted, with the stake that they hold together.
 #[derive(Clone, Copy)]
@@ -24,7 +25,7 @@ pub struct StakeAggregator {
 // What adding a vote answers, and the aggregator afterwards.
 #[derive(Clone, Copy)]
 pub struct Added {
-    pub answer: AddAnswer,
+    pub answer: Result<Vote, Refusal>,
     pub aggregator: StakeAggregator,
 }
 
@@ -32,12 +33,10 @@ pub struct Added {
 fn all_known(stakes: &[u64], votes: AuthoritySet) -> bool
     ensures { result ≡ all_of (known stakes.now) (members votes) }
 {
-    let mut i = stakes.len();
-    while i < committee::MAX_MEMBERS {
+    for i in stakes.len()..committee::MAX_MEMBERS {
         if votes.contains(AuthorityIndex(i as u64)) {
             return false;
         }
-        i += 1;
     }
     true
 }
@@ -82,11 +81,11 @@ impl StakeAggregator {
     }
 
     // A refusal changes nothing.
-    fn refused(self, number: u64) -> Added
-        ensures { (result.answer ≡ AddAnswer.Refused number) × (result.aggregator ≡ self) }
+    fn refused(self, refusal: Refusal) -> Added
+        ensures { (result.answer ≡ Err refusal) × (result.aggregator ≡ self) }
     {
         Added {
-            answer: AddAnswer::Refused(number),
+            answer: Err(refusal),
             aggregator: self,
         }
     }
@@ -95,14 +94,14 @@ impl StakeAggregator {
     pub fn add(self, stakes: &[u64], vote: AuthorityIndex) -> Added
         ensures { as_added result ≡ add stakes.now (as_aggregator self) vote.0 }
     {
-        let NewCommittee::Taken(total) = committee::new_committee(stakes) else {
-            return self.refused(5);
+        let Ok(total) = committee::new_committee(stakes) else {
+            return self.refused(Refusal::BrokenCommittee);
         };
         if !self.in_order(stakes) {
-            return self.refused(6);
+            return self.refused(Refusal::BrokenAggregator);
         }
-        let FoundStake::Known(stake) = committee::get_stake(stakes, vote) else {
-            return self.refused(21);
+        let Some(stake) = committee::get_stake(stakes, vote) else {
+            return self.refused(Refusal::UnknownAuthor);
         };
         let votes = self.votes;
         let repeated = votes.contains(vote);
@@ -110,14 +109,18 @@ impl StakeAggregator {
         let next = self.with_vote(vote, stake);
         let now = committee::is_quorum(total, next.stake);
         Added {
-            answer: committee_vote_answer::told(repeated, before, now),
+            answer: Ok(committee_vote_answer::told(repeated, before, now)),
             aggregator: next,
         }
     }
 }
 
 // Puts the vote into the aggregator that is lent: 5, 6, 21 ascending, changing nothing; else one of the four.
-pub fn add(aggregator: &mut StakeAggregator, stakes: &[u64], vote: AuthorityIndex) -> AddAnswer
+pub fn add(
+    aggregator: &mut StakeAggregator,
+    stakes: &[u64],
+    vote: AuthorityIndex,
+) -> Result<Vote, Refusal>
     ensures { (as_add_answer result ≡ (add stakes.now (as_aggregator aggregator.old) vote.0).answer) × (as_aggregator aggregator.new ≡ (add stakes.now (as_aggregator aggregator.old) vote.0).aggregator) }
 {
     let old = *aggregator;

@@ -5,11 +5,12 @@ ghost use Rattle.std.specs.Prelude.{◌≡◌};
 ghost use Rattle.committee_aggregator.specs.StakeAggregator.{add};
 ghost use Rattle.committee_aggregator.specs.Answers.{as_aggregator, as_added};
 
+use base::Refusal;
 use committee::AuthorityIndex;
 use committee_aggregator::{Added, StakeAggregator};
-use committee_vote_answer::AddAnswer;
+use committee_vote_answer::Vote;
 
-fn added(answer: AddAnswer, aggregator: StakeAggregator) -> Added
+fn added(answer: Result<Vote, Refusal>, aggregator: StakeAggregator) -> Added
     ensures { (result.answer ≡ answer) × (result.aggregator ≡ aggregator) }
 {
     Added { answer, aggregator }

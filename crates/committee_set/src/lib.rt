@@ -102,13 +102,11 @@ pub fn stake_of(stakes: &[u64], votes: AuthoritySet) -> Stake
     ensures { result.0 ≡ stake_of stakes.now votes }
 {
     let mut stake: u64 = 0;
-    let mut i = 0;
-    while i < stakes.len() {
+    for i in 0..stakes.len() {
         if votes.contains(AuthorityIndex(i as u64)) {
             let s = stakes[i];
             stake += s;
         }
-        i += 1;
     }
     Stake(stake)
 }

@@ -10,7 +10,8 @@ ghost use Rattle.draft_spec.specs.Joining.{run, right_piece, touches, run_statem
 ghost use Rattle.draft_accept_runs.specs.Step.{payload_inside};
 
 use record_statement::BaseStatement;
-use types::{BlockReference, Ordering, TransactionLocator, TransactionLocatorRange};
+use std::cmp::Ordering;
+use types::{BlockReference, TransactionLocator, TransactionLocatorRange};
 
 // An accept goes on with a run: the same block, the offset one above the last, and the end stays below the limit.
 pub fn goes_on(block: BlockReference, last: u64, other: TransactionLocator) -> bool

@@ -19,7 +19,8 @@ use Rattle.record_spec.specs.Block.{Statement, share}
 use Rattle.record_spec.specs.Record.{read_statement}
 use Rattle.record_statement.specs.Values.{as_statement}
 use Rattle.record_statement.specs.Step.{payload_between, Took}
-use Rattle.record_statement.specs.declared.Taken as taken
+use Rattle.std.specs.Prelude.{Some, None}
+use Rattle.std.specs.declared.option.Option as code
 use Rattle.record_statement.specs.declared.BaseStatement.{BaseStatement}
 use Rattle.record_statement.specs.declared.BaseStatement.TheVariants.{Share, Accept, Reject, RejectFor, VoteRange}
 use Rattle.record_statement.proofs.Steps.{read_payload, payload_cut, payload_short, payload_reads}
@@ -104,9 +105,9 @@ module _ (s : List ℕ) (p : ℕ) where
     one_given = to_end_goes_on read_given given_bytes GivenFits some_bytes given_back (drop p s) (part v (drop next s)) (bytes_drop p s bytes) read
 
 -- what a record has there, where the kind byte is no share's
-pub took_given : (s : List ℕ) (p : ℕ) (r : taken.Taken) → AllBytes s → p < length s → (get_or s p 0 ≡ 0 → ⊥) → Took s p r → TookGiven s p r
+pub took_given : (s : List ℕ) (p : ℕ) (r : code.Option (BaseStatement × ℕ)) → AllBytes s → p < length s → (get_or s p 0 ≡ 0 → ⊥) → Took s p r → TookGiven s p r
 unfolding Took TookGiven
-took_given s p (taken.TheVariants.Statement st next) b h k t =
+took_given s p (Some (st, next)) b h k t =
     let read : read_given (drop p s) ≡ some (part (as_statement s st) (drop next s)) = given_other s p h k ∙ t.0 in
     (read, (given_falls s p b (as_statement s st) next read t.1.0, (t.1.0, between_inside s p next st t.1.0 t.1.1)))
-took_given s p taken.TheVariants.Malformed b h k t = given_other s p h k ∙ t
+took_given s p None b h k t = given_other s p h k ∙ t

@@ -5,7 +5,6 @@ use mathlib.Core.Option
 use mathlib.Core.Option.{Option, none, some}
 use mathlib.Core.Bool.{Bool, true, false}
 use Prim.Native.Nat.{ℕ, ◌+◌, ◌≤◌, ◌<◌}
-use mathlib.Core.Logic.{inl, inr}
 use native.Mathlib.Omega.{arith}
 use native.Mathlib.Decide.{dec_lt}
 use lib.ListN.{length, drop}
@@ -19,12 +18,11 @@ use Rattle.record_statement.specs.Values.{as_statement}
 use Rattle.record_statement.specs.declared.BaseStatement.{BaseStatement}
 use Rattle.record_statement.specs.declared.BaseStatement.TheVariants.{Share, Accept, Reject, RejectFor, VoteRange}
 use Rattle.types.specs.declared.TransactionLocator as code-locator
-use Rattle.record_statement.specs.declared.Taken as taken
+use Rattle.std.specs.Prelude.{Some, None}
 use Rattle.draft_spec.specs.Draft.{read_given, statements_in}
 use Rattle.draft_spec.specs.Joining.{Piece, apart, run, touches, fronted, attached, pieces, run_statement, piece_statement, joined, is_accept, right_piece}
 use Rattle.draft_spec.proofs.Joining.{Touching, touching, touching_yes, RightRun, right_run, run_right, one_right, pieces_right}
 use Rattle.draft_joined.specs.Step.{TookGiven, joined_from, joined_after, followed, TookAccept, TookJoined}
-use Rattle.draft_joined.specs.declared.NextAccept.TheVariants.{Other}
 use Rattle.draft_joined.proofs.Given.{none_given, all_given, one_given}
 
 -- ---- a run in front of an accept
@@ -166,8 +164,8 @@ alone_right l = run_right (one_range l) (one_right l)
 
 -- ---- what code finds at a position
 
-pub other_there : (s : List ℕ) (p : ℕ) (st : BaseStatement) (next : ℕ) → AllBytes s → TookGiven s p (taken.TheVariants.Statement st next)
-    → is_accept (as_statement s st) ≡ false → TookAccept s p Other
+pub other_there : (s : List ℕ) (p : ℕ) (st : BaseStatement) (next : ℕ) → AllBytes s → TookGiven s p (Some (st, next))
+    → is_accept (as_statement s st) ≡ false → TookAccept s p None
 unfolding TookGiven TookAccept
 other_there s p st next b t h = ends_other s p b next (as_statement s st) h t.0
 
@@ -180,7 +178,7 @@ no_accept s (Reject l) k = refl
 no_accept s (RejectFor l m) k = refl
 no_accept s (VoteRange r) k = refl
 
-pub joined_there : (s : List ℕ) (p : ℕ) (st : BaseStatement) (next : ℕ) → AllBytes s → TookGiven s p (taken.TheVariants.Statement st next)
-    → is_accept (as_statement s st) ≡ false → TookJoined s p (taken.TheVariants.Statement st next)
+pub joined_there : (s : List ℕ) (p : ℕ) (st : BaseStatement) (next : ℕ) → AllBytes s → TookGiven s p (Some (st, next))
+    → is_accept (as_statement s st) ≡ false → TookJoined s p (Some (st, next))
 unfolding TookGiven TookJoined
 joined_there s p st next b t h = (joined_other s p b next (as_statement s st) h t.0, t.1)

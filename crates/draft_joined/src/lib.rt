@@ -5,15 +5,8 @@ ghost use Rattle.std.specs.Prelude.{◌≡◌, ◌≤◌, ◌<◌, length, get_o
 ghost use Rattle.types.specs.Values.{as_locator};
 ghost use Rattle.draft_joined.specs.Step.{TookGiven, TookAccept, RunFrom, TookJoined};
 
-use record_statement::{BaseStatement, Taken};
+use record_statement::BaseStatement;
 use types::TransactionLocator;
-
-// The accept at a position of the given statements with the position after it, or something else is there.
-#[derive(Clone, Copy)]
-enum NextAccept {
-    At(TransactionLocator, usize),
-    Other,
-}
 
 // A run of accepts: its last offset, and the position after it.
 #[derive(Clone, Copy)]
@@ -22,29 +15,29 @@ struct Run {
     at: usize,
 }
 
-// ---- a statement as it is given
+// ---- a statement as it is given, with the position after it; or nothing where it is malformed
 
 // A share's length has 4 bytes here.
-fn take_long_share(s: &[u8], at: usize) -> Taken
+fn take_long_share(s: &[u8], at: usize) -> Option<(BaseStatement, usize)>
     requires { (at < length s.now) × (get_or s.now at 0 ≡ 0) }
     ensures { TookGiven s.now at result }
 {
     if s.len() - at < 5 {
-        return Taken::Malformed;
+        return None;
     }
     let len = base::read_u32(s, at + 1) as usize;
     let start = at + 5;
     if s.len() - start < len {
-        return Taken::Malformed;
+        return None;
     }
-    Taken::Statement(BaseStatement::Share(start, len), start + len)
+    Some((BaseStatement::Share(start, len), start + len))
 }
 
-fn take_given(s: &[u8], at: usize) -> Taken
+fn take_given(s: &[u8], at: usize) -> Option<(BaseStatement, usize)>
     ensures { TookGiven s.now at result }
 {
     if s.len() <= at {
-        return Taken::Malformed;
+        return None;
     }
     if s[at] == 0 {
         return take_long_share(s, at);
@@ -54,19 +47,18 @@ fn take_given(s: &[u8], at: usize) -> Taken
 
 // ---- runs of accepts
 
-fn next_accept(s: &[u8], at: usize) -> NextAccept
+// The accept at a position of the given statements with the position after it, or nothing where something else is there.
+fn next_accept(s: &[u8], at: usize) -> Option<(TransactionLocator, usize)>
     requires { at ≤ length s.now }
     ensures { TookAccept s.now at result }
 {
-    let Taken::Statement(statement, next) = take_given(s, at) else {
-        return NextAccept::Other;
-    };
+    let (statement, next) = take_given(s, at)?;
     match statement {
-        BaseStatement::Accept(locator) => NextAccept::At(locator, next),
-        BaseStatement::Share(_, _) => NextAccept::Other,
-        BaseStatement::Reject(_) => NextAccept::Other,
-        BaseStatement::RejectFor(_, _) => NextAccept::Other,
-        BaseStatement::VoteRange(_) => NextAccept::Other,
+        BaseStatement::Accept(locator) => Some((locator, next)),
+        BaseStatement::Share(_, _) => None,
+        BaseStatement::Reject(_) => None,
+        BaseStatement::RejectFor(_, _) => None,
+        BaseStatement::VoteRange(_) => None,
     }
 }
 
@@ -78,7 +70,7 @@ fn run_of(s: &[u8], first: TransactionLocator, from: usize) -> Run
     let mut last = first.offset;
     let mut at = from;
     loop {
-        let NextAccept::At(other, next) = next_accept(s, at) else {
+        let Some((other, next)) = next_accept(s, at) else {
             return Run { last, at };
         };
         if !draft_accept_runs::goes_on(first.block, last, other) {
@@ -91,20 +83,19 @@ fn run_of(s: &[u8], first: TransactionLocator, from: usize) -> Run
 
 // ---- the statements as they are written
 
-// The next one, from the given statement at a position on; and the position of the given statement after it.
-pub fn next_joined(s: &[u8], at: usize) -> Taken
+// The next one, from the given statement at a position on; and the position of the given statement after it. Nothing where one is
+// malformed.
+pub fn next_joined(s: &[u8], at: usize) -> Option<(BaseStatement, usize)>
     requires { at < length s.now }
     ensures { TookJoined s.now at result }
 {
-    let Taken::Statement(statement, next) = take_given(s, at) else {
-        return Taken::Malformed;
-    };
+    let (statement, next) = take_given(s, at)?;
     let BaseStatement::Accept(first) = statement else {
-        return Taken::Statement(statement, next);
+        return Some((statement, next));
     };
     let run = run_of(s, first, next);
-    Taken::Statement(
+    Some((
         draft_accept_runs::run_statement(first.block, first.offset, run.last),
         run.at,
-    )
+    ))
 }

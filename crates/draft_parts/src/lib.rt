@@ -9,9 +9,6 @@ ghost use Rattle.draft_joined.specs.Step.{joined_from};
 ghost use Rattle.draft_size.specs.Step.{bytes_in, writable, front_bytes, count_bytes, part_bytes};
 
 use committee::{AuthorityIndex, RoundNumber};
-use draft_statements::Size;
-use record_reader::CreationTime;
-use record_statement::Taken;
 
 // The author, the round and the digest.
 pub fn write_front(out: &mut [u8], author: AuthorityIndex, round: RoundNumber, digest: &[u8])
@@ -34,21 +31,21 @@ pub fn write_counts(out: &mut [u8], mark: u8, includes: u16, statements: u16)
 }
 
 // How many bytes the time takes.
-pub fn time_size(time: CreationTime) -> usize
+pub fn time_size(time: Option<u64>) -> usize
     ensures { result ≡ length (time_bytes (as_time time)) }
 {
     match time {
-        CreationTime::Given(_) => 16,
-        CreationTime::NotGiven => 0,
+        Some(_) => 16,
+        None => 0,
     }
 }
 
 // The three bytes of the edition, and the time where one is given.
-pub fn write_edition(out: &mut [u8], time: CreationTime)
+pub fn write_edition(out: &mut [u8], time: Option<u64>)
     requires { 56 + length (time_bytes (as_time time)) ≤ length out.old }
     ensures { out.new ≡ sets out.old 53 (part_bytes (as_time time)) }
 {
-    let CreationTime::Given(nanoseconds) = time else {
+    let Some(nanoseconds) = time else {
         out[53] = 0;
         out[54] = 0;
         out[55] = 0;
@@ -69,11 +66,11 @@ pub fn write_statements(out: &mut [u8], from: usize, s: &[u8])
     let mut at: usize = 0;
     let mut to = from;
     while at < s.len() {
-        let Taken::Statement(statement, next) = draft_joined::next_joined(s, at) else {
+        let Some((statement, next)) = draft_joined::next_joined(s, at) else {
             // Never so: they were measured.
             return;
         };
-        let Size::Bytes(size) = draft_statements::statement_size(statement) else {
+        let Some(size) = draft_statements::statement_size(statement) else {
             // Never so.
             return;
         };

@@ -17,7 +17,7 @@ use Rattle.draft_spec.specs.Writing.{is_long}
 use Rattle.draft_joined.specs.Step.{joined_from, followed}
 use Rattle.draft_joined.proofs.Given.{all_given}
 use Rattle.draft_size.specs.Step.{measured_on, bytes_in, writable}
-use Rattle.draft_size.specs.declared.Measured.TheVariants.{Fits, Malformed}
+use Rattle.std.specs.Prelude.{Some, None}
 
 -- nothing is left
 pub joined_done : (s : List ℕ) (p : ℕ) → length s ≤ p → joined_from s p ≡ some []
@@ -27,7 +27,7 @@ joined_done s p h = rw (all_given s p h)
 -- ---- measured
 
 module _ (count bytes : ℕ) where
-  pub measured_done : count ≤ 1024 → measured_on count bytes (some []) ≡ Fits count bytes
+  pub measured_done : count ≤ 1024 → measured_on count bytes (some []) ≡ Some (count, bytes)
   unfolding measured_on any_of flatten
   measured_done h =
       let n : count + 0 ≡ count = omega arith in
@@ -35,12 +35,12 @@ module _ (count bytes : ℕ) where
       rw (n, b, le-ltb 1024 count h)
 
   module _ (w : Statement) where
-    pub measured_long : is_long w ≡ true → (o : Option (List Statement)) → measured_on count bytes (followed w o) ≡ Malformed
+    pub measured_long : is_long w ≡ true → (o : Option (List Statement)) → measured_on count bytes (followed w o) ≡ None
     unfolding measured_on followed any_of
     measured_long h none = refl
     measured_long h (some ws) = rw h
 
-    pub measured_many : 1024 ≤ count → (o : Option (List Statement)) → measured_on count bytes (followed w o) ≡ Malformed
+    pub measured_many : 1024 ≤ count → (o : Option (List Statement)) → measured_on count bytes (followed w o) ≡ None
     unfolding measured_on followed
     measured_many h none = refl
     measured_many h (some ws) =

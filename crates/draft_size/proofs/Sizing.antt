@@ -34,7 +34,8 @@ use Rattle.draft_spec.proofs.Given.{includes_back}
 use Rattle.draft_spec.proofs.Written.{Writable, writable}
 use Rattle.draft_joined.specs.Step.{joined_from}
 use Rattle.draft_size.specs.Step.{measured_on, sized_up, bytes_in, writable as can_write, front_bytes, count_bytes, part_bytes}
-use Rattle.draft_size.specs.declared.Measured.TheVariants.{Fits, Malformed}
+use Rattle.std.specs.Prelude.{Some, None}
+use Rattle.std.specs.declared.option.Option as code
 
 -- ---- what is given, in parts
 
@@ -91,36 +92,36 @@ joined_long ss = joins_long (joins ss)
 -- ---- another form
 
 module _ (q : Request) where
-  not_sized : ((d : Draft) → Parts q d → Writable d → ⊥) → sized_up (draft_in q) ≡ Malformed
+  not_sized : ((d : Draft) → Parts q d → Writable d → ⊥) → sized_up (draft_in q) ≡ None
   unfolding sized_up
   not_sized f = go (draft_in q) refl
     where
-      go : (o : Option Draft) → draft_in q ≡ o → sized_up o ≡ Malformed
+      go : (o : Option Draft) → draft_in q ≡ o → sized_up o ≡ None
       go none e = refl
       go (some d) e = rw (fails (passes (form_checks d)) (λ h. f d (parts_of q d e) (writable d h)))
 
-  pub sized_digest : (length q.digest ≡ 32 → ⊥) → sized_up (draft_in q) ≡ Malformed
+  pub sized_digest : (length q.digest ≡ 32 → ⊥) → sized_up (draft_in q) ≡ None
   sized_digest h = not_sized (λ d p w. h (rw p.digest at w.size))
 
-  pub sized_mark : 1 < q.mark → sized_up (draft_in q) ≡ Malformed
+  pub sized_mark : 1 < q.mark → sized_up (draft_in q) ≡ None
   sized_mark h = not_sized (λ d p w. omega (arith, p.mark, w.mark))
 
-  pub sized_cut : AllBytes q.includes → (length q.includes % 48 ≡ 0 → ⊥) → sized_up (draft_in q) ≡ Malformed
+  pub sized_cut : AllBytes q.includes → (length q.includes % 48 ≡ 0 → ⊥) → sized_up (draft_in q) ≡ None
   sized_cut b h = not_sized (λ d p w. h (let e = includes_length q.includes d.includes b p.includes in omega (arith, e)))
 
-  pub sized_includes : AllBytes q.includes → 256 < length q.includes / 48 → sized_up (draft_in q) ≡ Malformed
+  pub sized_includes : AllBytes q.includes → 256 < length q.includes / 48 → sized_up (draft_in q) ≡ None
   sized_includes b h = not_sized (λ d p w. let e = includes_length q.includes d.includes b p.includes in omega (arith, e, w.few_includes_lem))
 
 measured_all : (ws : List Statement)
-    → measured_on 0 0 (some ws) ≡ pick (any_of is_long ws || ltb 1024 (length ws)) Malformed (Fits (length ws) (length (flatten (map statement_bytes ws))))
+    → measured_on 0 0 (some ws) ≡ pick (any_of is_long ws || ltb 1024 (length ws)) None (Some (length ws, length (flatten (map statement_bytes ws))))
 unfolding measured_on
 measured_all ws = rw (zero-add (length ws), zero-add (length (flatten (map statement_bytes ws))))
 
 -- what was measured of the statements that are written
-measured_back : (ws : List Statement) → measured_on 0 0 (some ws) ≡ Malformed → any_of is_long ws || ltb 1024 (length ws) ≡ true
+measured_back : (ws : List Statement) → measured_on 0 0 (some ws) ≡ None → any_of is_long ws || ltb 1024 (length ws) ≡ true
 measured_back ws h = go (any_of is_long ws || ltb 1024 (length ws)) (sym (measured_all ws) ∙ h)
   where
-    go : (t : Bool) → pick t Malformed (Fits (length ws) (length (flatten (map statement_bytes ws)))) ≡ Malformed → t ≡ true
+    go : (t : Bool) → pick {A = code.Option (ℕ × ℕ)} t None (Some (length ws, length (flatten (map statement_bytes ws)))) ≡ None → t ≡ true
     go true k = refl
     go false k = let z : ◌≡◌ {A = ℕ} 0 1 = cc in absurd (omega arith)
 
@@ -128,7 +129,7 @@ joined_from_lem : (s : List ℕ) (ss : List Statement) → statements_in s ≡ s
 unfolding joined_from
 joined_from_lem s ss h = rw h
 
-pub sized_statements : (q : Request) → measured_on 0 0 (joined_from q.statements 0) ≡ Malformed → sized_up (draft_in q) ≡ Malformed
+pub sized_statements : (q : Request) → measured_on 0 0 (joined_from q.statements 0) ≡ None → sized_up (draft_in q) ≡ None
 sized_statements q h = not_sized q (λ d p w. go d w (or_cases _ _
     (measured_back (joined d.statements) (rw (joined_from_lem q.statements d.statements p.statements) at h))))
   where
@@ -137,6 +138,11 @@ sized_statements q h = not_sized q (λ d p w. go d w (or_cases _ _
     go d w (inr e) = omega (arith, ltb-true 1024 (length (joined d.statements)) e, w.few_statements_lem)
 
 -- ---- the size
+
+-- both numbers of a measure
+abbrev numbers : code.Option (ℕ × ℕ) → ℕ × ℕ
+numbers None = (0, 0)
+numbers (Some p) = p
 
 -- what was measured of statements that fit
 record Fitting (s : List ℕ) (count bytes : ℕ) : Type 0 where
@@ -147,12 +153,13 @@ record Fitting (s : List ℕ) (count bytes : ℕ) : Type 0 where
   counted : count ≡ length (joined statements)
   sized : bytes ≡ length (flatten (map statement_bytes (joined statements)))
 
-fitting : (s : List ℕ) (count bytes : ℕ) → measured_on 0 0 (joined_from s 0) ≡ Fits count bytes → Fitting s count bytes
+fitting : (s : List ℕ) (count bytes : ℕ) → measured_on 0 0 (joined_from s 0) ≡ Some (count, bytes) → Fitting s count bytes
 unfolding joined_from measured_on
 fitting s count bytes h = go (statements_in s) refl h
   where
     test : (ss : List Statement) → statements_in s ≡ some ss → (t : Bool) → any_of is_long (joined ss) || ltb 1024 (length (joined ss)) ≡ t
-        → pick t Malformed (Fits (length (joined ss)) (length (flatten (map statement_bytes (joined ss))))) ≡ Fits count bytes → Fitting s count bytes
+        → pick {A = code.Option (ℕ × ℕ)} t None (Some (length (joined ss), length (flatten (map statement_bytes (joined ss))))) ≡ Some (count, bytes)
+        → Fitting s count bytes
     test ss e true f k = let z : ◌≡◌ {A = ℕ} 0 1 = cc in absurd (omega arith)
     test ss e false f k =
         record {
@@ -160,11 +167,11 @@ fitting s count bytes h = go (statements_in s) refl h
           read = e;
           short = neither_left _ _ f;
           few = ltb-false 1024 (length (joined ss)) (neither_right (any_of is_long (joined ss)) _ f);
-          counted = (cc);
-          sized = (cc);
+          counted = sym (ap (λ o. (numbers o).0) k);
+          sized = sym (ap (λ o. (numbers o).1) k);
         }
 
-    go : (o : Option (List Statement)) → statements_in s ≡ o → measured_on 0 0 (Option.map joined o) ≡ Fits count bytes → Fitting s count bytes
+    go : (o : Option (List Statement)) → statements_in s ≡ o → measured_on 0 0 (Option.map joined o) ≡ Some (count, bytes) → Fitting s count bytes
     go none e k = let z : ◌≡◌ {A = ℕ} 0 1 = cc in absurd (omega arith)
     go (some ss) e k = test ss e (any_of is_long (joined ss) || ltb 1024 (length (joined ss))) refl (sym (measured_all (joined ss)) ∙ k)
 
@@ -270,25 +277,25 @@ module _ (q : Request) (all : AllBytes q.includes) where
       }
 
   -- from what was measured
-  pub planned : (count bytes : ℕ) → sized_up (draft_in q) ≡ Fits count bytes → Plan q count bytes
+  pub planned : (count bytes : ℕ) → sized_up (draft_in q) ≡ Some (count, bytes) → Plan q count bytes
   unfolding sized_up
   planned count bytes h = go (draft_in q) refl h
     where
       test : (d : Draft) → draft_in q ≡ some d → (t : Bool) → passes (form_checks d) ≡ t
-          → pick t (Fits (length (joined d.statements)) (length (record_bytes none d))) Malformed ≡ Fits count bytes → Plan q count bytes
+          → pick {A = code.Option (ℕ × ℕ)} t (Some (length (joined d.statements), length (record_bytes none d))) None ≡ Some (count, bytes) → Plan q count bytes
       test d e true f k =
-          let c : length (joined d.statements) ≡ count = cc in
-          let b : length (record_bytes none d) ≡ bytes = cc in
+          let c : length (joined d.statements) ≡ count = ap (λ o. (numbers o).0) k in
+          let b : length (record_bytes none d) ≡ bytes = ap (λ o. (numbers o).1) k in
           rw (c, b) at (plan_of d e f)
       test d e false f k = let z : ◌≡◌ {A = ℕ} 0 1 = cc in absurd (omega arith)
 
-      go : (o : Option Draft) → draft_in q ≡ o → sized_up o ≡ Fits count bytes → Plan q count bytes
+      go : (o : Option Draft) → draft_in q ≡ o → sized_up o ≡ Some (count, bytes) → Plan q count bytes
       go none e k = let z : ◌≡◌ {A = ℕ} 0 1 = cc in absurd (omega arith)
       go (some d) e k = test d e (passes (form_checks d)) refl k
 
   -- and what code measures part by part
   pub sized_fits : (count bytes : ℕ) → length q.digest ≡ 32 → q.mark ≤ 1 → length q.includes % 48 ≡ 0 → length q.includes / 48 ≤ 256
-      → measured_on 0 0 (joined_from q.statements 0) ≡ Fits count bytes → sized_up (draft_in q) ≡ Fits count (56 + length q.includes + bytes)
+      → measured_on 0 0 (joined_from q.statements 0) ≡ Some (count, bytes) → sized_up (draft_in q) ≡ Some (count, 56 + length q.includes + bytes)
   unfolding sized_up draft_in with_parts form_checks passes all_of
   sized_fits count bytes dg m whole few h =
       let f : Fitting q.statements count bytes = fitting q.statements count bytes h in

@@ -1,5 +1,5 @@
 -- Machinery for the contracts of private functions: sizes, and the bytes of each part. Assumes nothing: these are definitions.
-use Rattle.std.specs.Prelude.{ℕ, ◌+◌, Bool, true, false, not, ◌||◌, ltb, leb, length}
+use Rattle.std.specs.Prelude.{ℕ, Some, None, ◌+◌, Bool, true, false, not, ◌||◌, ltb, leb, length}
 use mathlib.Core.List.{List, [], ◌∷◌, ◌++◌, map, flatten}
 use Rattle.std.proofs.Math.Option.{Option, none, some}
 use Rattle.base.specs.Lists.{pick, any_of}
@@ -10,24 +10,23 @@ use Rattle.record_spec.specs.Record.{statement_bytes, edition_bytes, time_bytes,
 use Rattle.draft_spec.specs.Draft.{Draft}
 use Rattle.draft_spec.specs.Joining.{joined}
 use Rattle.draft_spec.specs.Writing.{record_bytes, is_long, form_checks}
-use Rattle.draft_size.specs.declared.Measured.{Measured}
-use Rattle.draft_size.specs.declared.Measured.TheVariants.{Fits, Malformed}
+use Rattle.std.specs.declared.option.Option as code
 
 -- statements as they are written, after so many of so many bytes
-unfoldable pub measured_on : ℕ → ℕ → Option (List Statement) → Measured
-measured_on count bytes none = Malformed
+unfoldable pub measured_on : ℕ → ℕ → Option (List Statement) → code.Option (ℕ × ℕ)
+measured_on count bytes none = None
 measured_on count bytes (some ws) =
-    pick (any_of is_long ws || ltb 1024 (count + length ws)) Malformed (Fits (count + length ws) (bytes + length (flatten (map statement_bytes ws))))
+    pick (any_of is_long ws || ltb 1024 (count + length ws)) None (Some (count + length ws, bytes + length (flatten (map statement_bytes ws))))
 
 -- so many that a record's size is a number that fits
-unfoldable pub low : Measured → Bool
-low (Fits count bytes) = leb bytes 67110912
-low Malformed = true
+unfoldable pub low : code.Option (ℕ × ℕ) → Bool
+low (Some (count, bytes)) = leb bytes 67110912
+low None = true
 
 -- the record of a draft without a time, unless 51 applies
-unfoldable pub sized_up : Option Draft → Measured
-sized_up none = Malformed
-sized_up (some d) = pick (passes (form_checks d)) (Fits (length (joined d.statements)) (length (record_bytes none d))) Malformed
+unfoldable pub sized_up : Option Draft → code.Option (ℕ × ℕ)
+sized_up none = None
+sized_up (some d) = pick (passes (form_checks d)) (Some (length (joined d.statements), length (record_bytes none d))) None
 
 -- the bytes of the statements
 unfoldable pub bytes_in : Option (List Statement) → Bytes

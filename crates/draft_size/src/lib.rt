@@ -7,18 +7,8 @@ ghost use Rattle.draft_joined.specs.Step.{joined_from};
 ghost use Rattle.draft_size.specs.Asked.{requested};
 ghost use Rattle.draft_size.specs.Step.{measured_on, low, sized_up};
 
-use draft_statements::Size;
-use record_statement::Taken;
-
-// How many statements are written and in how many bytes; or what is given has another form.
-#[derive(Clone, Copy)]
-pub enum Measured {
-    Fits(usize, usize),
-    Malformed,
-}
-
-// The statements as they are written: their number and their bytes.
-fn measure(s: &[u8]) -> Measured
+// The statements as they are written: their number and their bytes. Nothing where what is given has another form.
+fn measure(s: &[u8]) -> Option<(usize, usize)>
     ensures value { result ≡ measured_on 0 0 (joined_from s.now 0) }
     ensures result_value { low result ≡ true }
 {
@@ -26,40 +16,39 @@ fn measure(s: &[u8]) -> Measured
     let mut count: usize = 0;
     let mut bytes: usize = 0;
     while at < s.len() {
-        let Taken::Statement(statement, next) = draft_joined::next_joined(s, at) else {
-            return Measured::Malformed;
-        };
-        let Size::Bytes(size) = draft_statements::statement_size(statement) else {
-            return Measured::Malformed;
-        };
+        let (statement, next) = draft_joined::next_joined(s, at)?;
+        let size = draft_statements::statement_size(statement)?;
         if count == record_reader::MAX_STATEMENTS {
-            return Measured::Malformed;
+            return None;
         }
         count = count + 1;
         bytes = bytes + size;
         at = next;
     }
-    Measured::Fits(count, bytes)
+    Some((count, bytes))
 }
 
 // The record: the number of its statements and its bytes; or 51 applies.
-pub fn measure_record(digest: &[u8], mark: u64, includes: &[u8], statements: &[u8]) -> Measured
+pub fn measure_record(
+    digest: &[u8],
+    mark: u64,
+    includes: &[u8],
+    statements: &[u8],
+) -> Option<(usize, usize)>
     ensures { (author round : ℕ) → result ≡ sized_up (draft_in (requested author round digest.now mark includes.now statements.now)) }
 {
     if digest.len() != 32 {
-        return Measured::Malformed;
+        return None;
     }
     if 1 < mark {
-        return Measured::Malformed;
+        return None;
     }
     if includes.len() % types::REFERENCE_BYTES != 0 {
-        return Measured::Malformed;
+        return None;
     }
     if record_reader::MAX_INCLUDES < includes.len() / types::REFERENCE_BYTES {
-        return Measured::Malformed;
+        return None;
     }
-    let Measured::Fits(count, bytes) = measure(statements) else {
-        return Measured::Malformed;
-    };
-    Measured::Fits(count, record_edition::HEAD_BYTES + includes.len() + bytes)
+    let (count, bytes) = measure(statements)?;
+    Some((count, record_edition::HEAD_BYTES + includes.len() + bytes))
 }

@@ -26,7 +26,7 @@ use Rattle.record_statement.specs.declared.BaseStatement.TheVariants.{Share, Acc
 use Rattle.draft_spec.specs.Writing.{is_long}
 use Rattle.draft_accept_runs.specs.Step.{payload_inside}
 use Rattle.draft_statements.specs.Step.{size_of}
-use Rattle.draft_statements.specs.declared.Size.TheVariants.{Bytes, Long}
+use Rattle.std.specs.Prelude.{None, Some}
 
 -- ---- written
 
@@ -110,12 +110,12 @@ unfolding is_long
 long_share s start len h = rw (share_length s start len h)
 
 module _ (s : List ℕ) where
-  pub size_bytes : (st : BaseStatement) (n : ℕ) → payload_inside (length s) st ≡ true → size_of st ≡ Bytes n → (is_long (as_statement s st) ≡ false) ×
+  pub size_bytes : (st : BaseStatement) (n : ℕ) → payload_inside (length s) st ≡ true → size_of st ≡ Some n → (is_long (as_statement s st) ≡ false) ×
       ((n ≡ bytes_of st) × (n ≤ 65538))
   unfolding size_of as_statement bytes_of is_long
   size_bytes (Share start len) n h e = go (ltb 65535 len) refl e
     where
-      go : (t : Bool) → ltb 65535 len ≡ t → pick t Long (Bytes (3 + len)) ≡ Bytes n → (ltb 65535 (length (take len (drop start s))) ≡ false) ×
+      go : (t : Bool) → ltb 65535 len ≡ t → pick t None (Some (3 + len)) ≡ Some n → (ltb 65535 (length (take len (drop start s))) ≡ false) ×
           ((n ≡ 3 + len) × (n ≤ 65538))
       go true f k = let z : ◌≡◌ {A = ℕ} 0 1 = cc in absurd (omega arith)
       go false f k =
@@ -126,11 +126,11 @@ module _ (s : List ℕ) where
   size_bytes (RejectFor l m) n h e = let z : 114 ≡ n = cc in (refl, (sym z, omega arith))
   size_bytes (VoteRange r) n h e = let z : 65 ≡ n = cc in (refl, (sym z, omega arith))
 
-  pub size_long : (st : BaseStatement) → payload_inside (length s) st ≡ true → size_of st ≡ Long → is_long (as_statement s st) ≡ true
+  pub size_long : (st : BaseStatement) → payload_inside (length s) st ≡ true → size_of st ≡ None → is_long (as_statement s st) ≡ true
   unfolding size_of as_statement is_long
   size_long (Share start len) h e = go (ltb 65535 len) refl e
     where
-      go : (t : Bool) → ltb 65535 len ≡ t → pick t Long (Bytes (3 + len)) ≡ Long → ltb 65535 (length (take len (drop start s))) ≡ true
+      go : (t : Bool) → ltb 65535 len ≡ t → pick t None (Some (3 + len)) ≡ None → ltb 65535 (length (take len (drop start s))) ≡ true
       go true f k = rw (share_length s start len (inside_share (length s) start len h)) f
       go false f k = let z : ◌≡◌ {A = ℕ} 0 1 = cc in absurd (omega arith)
   size_long (Accept l) h e = let z : ◌≡◌ {A = ℕ} 0 1 = cc in absurd (omega arith)

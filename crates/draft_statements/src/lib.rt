@@ -14,27 +14,21 @@ ghost use Rattle.draft_statements.specs.Step.{size_of};
 use record_statement::BaseStatement;
 use types::{TransactionLocator, TransactionLocatorRange};
 
-// The bytes of a statement; or its payload is longer than 65,535.
-#[derive(Clone, Copy)]
-pub enum Size {
-    Bytes(usize),
-    Long,
-}
-
-pub fn statement_size(statement: BaseStatement) -> Size
+// The bytes of a statement; or nothing where its payload is longer than 65,535.
+pub fn statement_size(statement: BaseStatement) -> Option<usize>
     ensures { result ≡ size_of statement }
 {
     match statement {
         BaseStatement::Share(_, len) => {
             if 65535 < len {
-                return Size::Long;
+                return None;
             }
-            Size::Bytes(3 + len)
+            Some(3 + len)
         }
-        BaseStatement::Accept(_) => Size::Bytes(57),
-        BaseStatement::Reject(_) => Size::Bytes(58),
-        BaseStatement::RejectFor(_, _) => Size::Bytes(114),
-        BaseStatement::VoteRange(_) => Size::Bytes(65),
+        BaseStatement::Accept(_) => Some(57),
+        BaseStatement::Reject(_) => Some(58),
+        BaseStatement::RejectFor(_, _) => Some(114),
+        BaseStatement::VoteRange(_) => Some(65),
     }
 }
 

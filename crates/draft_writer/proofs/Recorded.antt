@@ -22,7 +22,8 @@ use Rattle.draft_spec.specs.Draft.{Draft, Request, draft_in}
 use Rattle.draft_spec.specs.Joining.{joined}
 use Rattle.draft_spec.specs.Writing.{record_bytes, form_checks, write_checks, write_draft, write_timed}
 use Rattle.draft_size.specs.Step.{sized_up}
-use Rattle.draft_size.specs.declared.Measured.TheVariants.{Fits, Malformed}
+use Rattle.std.specs.Prelude.{Some, None}
+use Rattle.std.specs.declared.option.Option as code
 use Rattle.draft_size.proofs.Sizing.{Plan}
 
 -- ---- the record in the slice
@@ -77,11 +78,11 @@ unfolding passes all_of
 one_passes n t h = rw h
 
 -- a draft to which 51 applies
-malformed : (d : Draft) → sized_up (some d) ≡ Malformed → passes (form_checks d) ≡ false
+malformed : (d : Draft) → sized_up (some d) ≡ None → passes (form_checks d) ≡ false
 unfolding sized_up
 malformed d k = test (passes (form_checks d)) k
   where
-    test : (t : Bool) → pick t (Fits (length (joined d.statements)) (length (record_bytes none d))) Malformed ≡ Malformed → t ≡ false
+    test : (t : Bool) → pick {A = code.Option (ℕ × ℕ)} t (Some (length (joined d.statements), length (record_bytes none d))) None ≡ None → t ≡ false
     test true k = let z : ◌≡◌ {A = ℕ} 0 1 = cc in absurd (omega arith)
     test false k = refl
 
@@ -97,11 +98,11 @@ refuses_draft o d out f =
 
 module _ (o : Option ℕ) (q : Request) (out : List ℕ) where
   -- 51
-  pub refuses_form : sized_up (draft_in q) ≡ Malformed → write_timed o q out ≡ record { answer = refused 51; out = out }
+  pub refuses_form : sized_up (draft_in q) ≡ None → write_timed o q out ≡ record { answer = refused 51; out = out }
   unfolding write_timed write_draft
   refuses_form h = go (draft_in q) h
     where
-      go : (x : Option Draft) → sized_up x ≡ Malformed → write_draft o x out ≡ record { answer = refused 51; out = out }
+      go : (x : Option Draft) → sized_up x ≡ None → write_draft o x out ≡ record { answer = refused 51; out = out }
       go none k = refl
       go (some d) k = refuses_draft o d out (malformed d k)
 

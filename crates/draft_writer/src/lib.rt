@@ -9,16 +9,8 @@ ghost use Rattle.draft_spec.specs.Writing.{write_timed, write_record};
 ghost use Rattle.draft_size.specs.Asked.{requested};
 ghost use Rattle.draft_writer.specs.Answers.{as_write_answer};
 
+use base::Refusal;
 use committee::{AuthorityIndex, RoundNumber};
-use draft_size::Measured;
-use record_reader::CreationTime;
-
-// The length of the record that was written, or the refusal.
-#[derive(Clone, Copy)]
-pub enum WriteAnswer {
-    Written(usize),
-    Refused(u64),
-}
 
 // Writes a record of the edition that the time says into `out` and answers its length; bytes past it stay. 51, then 50.
 fn write_in(
@@ -26,25 +18,23 @@ fn write_in(
     round: RoundNumber,
     digest: &[u8],
     mark: u64,
-    time: CreationTime,
+    time: Option<u64>,
     includes: &[u8],
     statements: &[u8],
     out: &mut [u8],
-) -> WriteAnswer
+) -> Result<usize, Refusal>
     ensures result_value { as_write_answer result ≡ (write_timed (as_time time) (requested author.0 round.0 digest.now mark includes.now statements.now) out.old).answer }
     ensures out_after { out.new ≡ (write_timed (as_time time) (requested author.0 round.0 digest.now mark includes.now statements.now) out.old).out }
 {
-    let Measured::Fits(count, bytes) = draft_size::measure_record(
-        digest, mark, includes, statements,
-    ) else {
-        return WriteAnswer::Refused(51);
+    let Some((count, bytes)) = draft_size::measure_record(digest, mark, includes, statements) else {
+        return Err(Refusal::NotWritable);
     };
     let extra = draft_parts::time_size(time);
     if out.len() < bytes {
-        return WriteAnswer::Refused(50);
+        return Err(Refusal::TooShortToWrite);
     }
     if out.len() - bytes < extra {
-        return WriteAnswer::Refused(50);
+        return Err(Refusal::TooShortToWrite);
     }
     draft_parts::write_front(out, author, round, digest);
     draft_parts::write_counts(
@@ -60,7 +50,7 @@ fn write_in(
         record_edition::HEAD_BYTES + extra + includes.len(),
         statements,
     );
-    WriteAnswer::Written(bytes + extra)
+    Ok(bytes + extra)
 }
 
 // Writes a record without a time: 51, then 50.
@@ -72,20 +62,11 @@ pub fn write_record(
     includes: &[u8],
     statements: &[u8],
     out: &mut [u8],
-) -> WriteAnswer
+) -> Result<usize, Refusal>
     ensures result_value { as_write_answer result ≡ (write_record (requested author.0 round.0 digest.now mark includes.now statements.now) out.old).answer }
     ensures out_after { out.new ≡ (write_record (requested author.0 round.0 digest.now mark includes.now statements.now) out.old).out }
 {
-    write_in(
-        author,
-        round,
-        digest,
-        mark,
-        CreationTime::NotGiven,
-        includes,
-        statements,
-        out,
-    )
+    write_in(author, round, digest, mark, None, includes, statements, out)
 }
 
 // Writes a record with the time of its creation, in nanoseconds: 51, then 50.
@@ -98,7 +79,7 @@ pub fn write_timed_record(
     includes: &[u8],
     statements: &[u8],
     out: &mut [u8],
-) -> WriteAnswer
+) -> Result<usize, Refusal>
     ensures result_value { as_write_answer result ≡ (write_timed (some time) (requested author.0 round.0 digest.now mark includes.now statements.now) out.old).answer }
     ensures out_after { out.new ≡ (write_timed (some time) (requested author.0 round.0 digest.now mark includes.now statements.now) out.old).out }
 {
@@ -107,7 +88,7 @@ pub fn write_timed_record(
         round,
         digest,
         mark,
-        CreationTime::Given(time),
+        Some(time),
         includes,
         statements,
         out,

@@ -13,8 +13,8 @@ use Rattle.committee.specs.Committee.{AuthorityIndex, Committee}
 use Rattle.record_spec.specs.Reference.{new_range}
 use Rattle.record_spec.specs.Block.{Block, shared_ranges}
 use Rattle.record_shared_ranges.specs.Cursor.{runs_left, runs_told}
-use Rattle.record_shared_ranges.specs.declared.SharedRange.TheVariants.{Run, End}
-use Rattle.record_cursor.specs.declared.StatementCursor.{StatementCursor}
+use Rattle.std.specs.Prelude.{Some, None}
+use Rattle.record_shared_ranges.specs.declared.SharedRange.{SharedRange}
 use Rattle.pending_spec.specs.Items.{Item, item_before, item_full, first_vote, registered, register}
 use Rattle.pending_spec.specs.Table.{table_of, items_of, room, HoldsItems}
 use Rattle.pending_votes.proofs.Voting.{Written, written}
@@ -63,19 +63,19 @@ module _ (c : Committee) (a : AuthorityIndex) (p : ℕ) (b : Block) (t : List �
       unfolding room
       same_room = rw adding_written.long
 
-      module _ (start end : ℕ) (next : StatementCursor) (e : runs_left b i ≡ runs_told b (Run start end next)) where
-        later : h.ys ++ first_vote c a p start end ∷ map (registered c a p) (runs_left b next.index) ≡ all
+      module _ (run : SharedRange) (e : runs_left b i ≡ runs_told b (Some run)) where
+        later : h.ys ++ first_vote c a p run.start run.end ∷ map (registered c a p) (runs_left b run.next.index) ≡ all
         unfolding runs_told registered new_range
         later = rw e at h.rest
 
-        pub adding_on : length (items_of u) < room u → (v : List ℕ) → v ≡ table_of (length u) (items_of u ++ first_vote c a p start end ∷ []) → Adding
-            next.index v
+        pub adding_on : length (items_of u) < room u → (v : List ℕ) → v ≡ table_of (length u) (items_of u ++ first_vote c a p run.start run.end ∷ []) → Adding
+            run.next.index v
         adding_on l v w =
             record {
-              ys = h.ys ++ (first_vote c a p start end ∷ []);
+              ys = h.ys ++ (first_vote c a p run.start run.end ∷ []);
               rest = append_assoc h.ys _ _ ∙ later;
               table = rw (adding_written.long, adding_written.items) at w;
-              held = omega (arith, length-append h.ys (first_vote c a p start end ∷ []), rw (adding_written.items, same_room) at l);
+              held = omega (arith, length-append h.ys (first_vote c a p run.start run.end ∷ []), rw (adding_written.items, same_room) at l);
             }
 
         pub adding_stop : room u ≤ length (items_of u) → (v : List ℕ) → Registered all t false v
@@ -85,12 +85,12 @@ module _ (c : Committee) (a : AuthorityIndex) (p : ℕ) (b : Block) (t : List �
                 arith,
                 rw (adding_written.items, same_room) at l,
                 ap (λ (xs : List Item). length xs) later,
-                length-append h.ys (first_vote c a p start end ∷ map (registered c a p) (runs_left b next.index)),
+                length-append h.ys (first_vote c a p run.start run.end ∷ map (registered c a p) (runs_left b run.next.index)),
               )));
               table = λ q. absurd (not_both q refl);
             }
 
-      pub adding_end : runs_left b i ≡ runs_told b End → Registered all t true u
+      pub adding_end : runs_left b i ≡ runs_told b None → Registered all t true u
       unfolding runs_told
       adding_end e =
           let done : h.ys ≡ all = sym (append-nil h.ys) ∙ (rw e at h.rest) in

@@ -17,9 +17,8 @@ ghost use Rattle.feed_counted_vote.specs.Vote.{starting_with, VotesCounted, Voti
 ghost use Rattle.feed_aggregator.specs.Step.{Registered, Orderly, Feeding};
 ghost use Rattle.committee.specs.Committee.{broken, known};
 
-use committee::{NewCommittee, Stake};
+use committee::Stake;
 use feed_counted_vote::Processed;
-use record_shared_ranges::SharedRange;
 
 // The votes of a record's statements, one after the other.
 fn count_votes(
@@ -80,16 +79,14 @@ fn register_shares(stakes: &[u64], rec: &[u8], table: &mut [u64], p: u64) -> boo
     let author = reference.authority;
     let mut cursor = record_cursor::first_statement(rec);
     loop {
-        let SharedRange::Run(start, end, next) = record_shared_ranges::next_shared_range(
-            rec, cursor,
-        ) else {
+        let Some(run) = record_shared_ranges::next_shared_range(rec, cursor) else {
             return true;
         };
         if pending_words::room_of(table) <= pending_words::item_count(table) {
             return false;
         }
-        pending_range_map::register(stakes, table, author, p, start, end);
-        cursor = next;
+        pending_range_map::register(stakes, table, author, p, run.start, run.end);
+        cursor = run.next;
     }
 }
 
@@ -108,7 +105,7 @@ pub fn process_block(
     requires order { order.now ≡ sorted_positions (records_of store.now) }
     ensures { VotesCounted (process_block stakes.now (with_new store.now rec.now) (block_in rec.now) (items_of table.old)) telling 0 table.old events.old result table.new events.new }
 {
-    let NewCommittee::Taken(total) = committee::new_committee(stakes) else {
+    let Ok(total) = committee::new_committee(stakes) else {
         // Never so: the committee was checked.
         return Processed {
             fits: false,

@@ -21,7 +21,6 @@ ghost use Rattle.store_spec.specs.Entry.{laid_out, sorted_positions};
 
 use committee::Stake;
 use record_statement::BaseStatement;
-use record_statement_votes::VotedRange;
 use types::{BlockReference, TransactionLocatorRange};
 
 // Whether the items fit the table (14), and the number of events that are written then.
@@ -121,7 +120,7 @@ pub fn vote_statement(
     requires order { order.now ≡ sorted_positions (records_of store.now) }
     ensures { VotesCounted (vote stakes.now (with_new store.now rec.now) (author (block_in rec.now)) index (voted_range (as_statement rec.now statement)) (starting_with (items_of table.old))) telling n table.old events.old result table.new events.new }
 {
-    let VotedRange::Range(range) = record_statement_votes::voted_range(statement) else {
+    let Some(range) = record_statement_votes::voted_range(statement) else {
         return Processed {
             fits: true,
             events: n,

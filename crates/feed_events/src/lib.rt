@@ -15,8 +15,8 @@ ghost use Rattle.pending_spec.specs.Items.{item_holds};
 ghost use Rattle.pending_search.specs.Answers.{FoundBy};
 
 use committee::Stake;
-use pending_search::Found;
-use types::{BlockReference, Ordering};
+use std::cmp::Ordering;
+use types::BlockReference;
 
 // Where the voted block stands: the record being fed counts as stored, after all others. Zero: the block is not stored.
 pub fn voted_position(store: &[u8], order: &[u64], rec: &[u8], block: BlockReference) -> u64
@@ -42,7 +42,7 @@ fn stretch_events(
     statement: u64,
     block: BlockReference,
     p: u64,
-    found: Found,
+    found: Option<usize>,
     start: u64,
     end: u64,
 ) -> usize
@@ -51,7 +51,7 @@ fn stretch_events(
     requires room { (start ≤ end) × (3 * (n + (end - start)) ≤ length events.old) }
     ensures { StatedAt n (events_between total.0 (with_new store.now rec.now) (as_reference block) statement (items_of table.now) p start end) events.old result events.new }
 {
-    let Found::At(i) = found else {
+    let Some(i) = found else {
         return feed_missed::missed_events(store, rec, events, n, statement, block, p, start, end);
     };
     let x = pending_words::item_at(table, i);

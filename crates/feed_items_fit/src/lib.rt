@@ -15,10 +15,8 @@ fn copy_words(from: &[u64], to: &mut [u64])
     requires { length from.now ≡ length to.old }
     ensures { to.new ≡ from.now }
 {
-    let mut i = 0;
-    while i < from.len() {
+    for i in 0..from.len() {
         to[i] = from[i];
-        i += 1;
     }
 }
 

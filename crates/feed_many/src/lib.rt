@@ -8,14 +8,7 @@ ghost use Rattle.feed_many.specs.Records.{feed_all, feed_records};
 ghost use Rattle.feed_many.specs.Answers.{as_records_answer};
 ghost use Rattle.feed_many.specs.Step.{Ready, FedNext, FedEach};
 
-use feed_single::FeedAnswer;
-
-// How many records were answered, or a refusal of the whole call.
-#[derive(Clone, Copy)]
-pub enum RecordsAnswer {
-    Records(u64),
-    Refused(u64),
-}
+use base::Refusal;
 
 // The outcome of a refused record is this with the refusal's number.
 pub const REFUSED: u64 = 0x8000_0000_0000_0000;
@@ -41,12 +34,12 @@ fn feed_next(
 {
     let answer = feed_single::feed_in_order(stakes, store, table, work, events, rec);
     match answer {
-        FeedAnswer::Events(n) => Told {
+        Ok(n) => Told {
             outcome: n,
             words: 3 * (n as usize),
         },
-        FeedAnswer::Refused(number) => Told {
-            outcome: REFUSED + number,
+        Err(refusal) => Told {
+            outcome: REFUSED + refusal.number(),
             words: 0,
         },
     }
@@ -89,7 +82,7 @@ fn feed_each(
 }
 
 // Feeds records one after the other, each after its length in four bytes. A refusal of the call writes nothing but the work slice; else each
-// record has its outcome, and the events of the accepted ones stand at the front.
+// record has its outcome, the events of the accepted ones stand at the front, and the answer is how many records there are.
 pub fn feed_records(
     stakes: &[u64],
     store: &mut [u8],
@@ -98,23 +91,20 @@ pub fn feed_records(
     events: &mut [u64],
     outcomes: &mut [u64],
     records: &[u8],
-) -> RecordsAnswer
+) -> Result<u64, Refusal>
     ensures result_value { as_records_answer result ≡ (feed_records stakes.now (lent_of store.old table.old work.old events.old) outcomes.old records.now).answer }
     ensures store_after { store.new ≡ (feed_records stakes.now (lent_of store.old table.old work.old events.old) outcomes.old records.now).store }
     ensures table_after { table.new ≡ (feed_records stakes.now (lent_of store.old table.old work.old events.old) outcomes.old records.now).table }
     ensures events_after { events.new ≡ (feed_records stakes.now (lent_of store.old table.old work.old events.old) outcomes.old records.now).events }
     ensures outcomes_after { outcomes.new ≡ (feed_records stakes.now (lent_of store.old table.old work.old events.old) outcomes.old records.now).outcomes }
 {
-    let lent = pending_question::lent_refusal(stakes, store, table);
-    if lent != 0 {
-        return RecordsAnswer::Refused(lent);
-    }
+    pending_question::lent_refusal(stakes, store, table)?;
     if work.len() < table.len() {
-        return RecordsAnswer::Refused(12);
+        return Err(Refusal::WorkTooShort);
     }
     if outcomes.len() < feed_frames::record_count(records) {
-        return RecordsAnswer::Refused(64);
+        return Err(Refusal::OutcomesTooShort);
     }
     let n = feed_each(stakes, store, table, work, events, outcomes, records);
-    RecordsAnswer::Records(n as u64)
+    Ok(n as u64)
 }

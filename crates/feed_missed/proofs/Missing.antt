@@ -14,8 +14,8 @@ use Rattle.record_spec.specs.Reference.{BlockReference, locator, same_reference}
 use Rattle.record_spec.specs.Block.{is_share_at}
 use Rattle.record_spec.specs.Record.{block_in}
 use Rattle.types.specs.Values.{order_of, reference_order}
-use Rattle.types.specs.declared.Ordering.{Ordering}
-use Rattle.types.specs.declared.Ordering.TheVariants.{Less, Equal, Greater}
+use Rattle.std.specs.declared.cmp.Ordering.{Ordering}
+use Rattle.std.specs.declared.cmp.Ordering.TheVariants.{Less, Equal, Greater}
 use Rattle.store_spec.specs.Layout.{Record, used_by, Entry, entries, position_of, lookup}
 use Rattle.store_spec.specs.Accept.{is_stored}
 use Rattle.store_spec.specs.Store.{records_of, record_in}

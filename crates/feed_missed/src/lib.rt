@@ -41,11 +41,9 @@ pub fn put_events(
     ensures { (result ≡ n + (end - start)) × (events.new ≡ sets events.old (3 * n) (words_of (events_by (λ _. kind) statement start end))) }
 {
     let mut k = n;
-    let mut o = start;
-    while o < end {
+    for o in start..end {
         put_event(events, k, kind, statement, o);
         k += 1;
-        o += 1;
     }
     k
 }
@@ -71,13 +69,11 @@ fn missed_in(
 {
     let mut cursor = record_cursor::first_statement(rec);
     let mut k = n;
-    let mut o = start;
-    while o < end {
+    for o in start..end {
         let found = pending_question::share_at(rec, cursor, o);
         cursor = found.cursor;
         put_event(events, k, missed_kind(found.share), statement, o);
         k += 1;
-        o += 1;
     }
     k
 }

@@ -11,14 +11,10 @@ ghost use Rattle.feed_single.specs.Answers.{as_feed_answer};
 ghost use Rattle.feed_refusals.specs.Step.{Accepting};
 ghost use Rattle.feed_single.specs.Accepted.{AcceptedAs};
 
-// The number of events, or a refusal.
-#[derive(Clone, Copy)]
-pub enum FeedAnswer {
-    Events(u64),
-    Refused(u64),
-}
+use base::Refusal;
 
-// Feeds a record. A refusal writes nothing but the work slice; else the record is stored and counted, and its events stand at the front.
+// Feeds a record. A refusal writes nothing but the work slice; else the record is stored and counted, its events stand at the
+// front, and the answer is how many they are.
 pub fn feed(
     stakes: &[u64],
     store: &mut [u8],
@@ -26,16 +22,13 @@ pub fn feed(
     work: &mut [u64],
     events: &mut [u64],
     rec: &[u8],
-) -> FeedAnswer
+) -> Result<u64, Refusal>
     ensures result_value { as_feed_answer result ≡ (feed stakes.now (lent_of store.old table.old work.old events.old) rec.now).answer }
     ensures store_after { store.new ≡ (feed stakes.now (lent_of store.old table.old work.old events.old) rec.now).store }
     ensures table_after { table.new ≡ (feed stakes.now (lent_of store.old table.old work.old events.old) rec.now).table }
     ensures events_after { events.new ≡ (feed stakes.now (lent_of store.old table.old work.old events.old) rec.now).events }
 {
-    let lent = pending_question::lent_refusal(stakes, store, table);
-    if lent != 0 {
-        return FeedAnswer::Refused(lent);
-    }
+    pending_question::lent_refusal(stakes, store, table)?;
     feed_in_order(stakes, store, table, work, events, rec)
 }
 
@@ -47,7 +40,7 @@ pub fn feed_in_order(
     work: &mut [u64],
     events: &mut [u64],
     rec: &[u8],
-) -> FeedAnswer
+) -> Result<u64, Refusal>
     requires { (refusal (pending_checks stakes.now store.old table.old) ≡ 0) × (laid_out store.old ≡ true) }
     ensures result_value { as_feed_answer result ≡ (feed stakes.now (lent_of store.old table.old work.old events.old) rec.now).answer }
     ensures store_after { store.new ≡ (feed stakes.now (lent_of store.old table.old work.old events.old) rec.now).store }
@@ -56,19 +49,8 @@ pub fn feed_in_order(
 {
     let mut order = [0u64; types::MAX_BLOCKS];
     let count = final_block_votes::sorted_positions(store, &mut order);
-    let refusal = feed_refusals::record_refusal(
-        stakes,
-        store,
-        &order[..count],
-        table,
-        work,
-        events,
-        rec,
-    );
-    if refusal != 0 {
-        return FeedAnswer::Refused(refusal);
-    }
-    FeedAnswer::Events(accept(stakes, store, &order[..count], table, events, rec))
+    feed_refusals::record_refusal(stakes, store, &order[..count], table, work, events, rec)?;
+    Ok(accept(stakes, store, &order[..count], table, events, rec))
 }
 
 // Counts and stores a record that no refusal applies to: the number of events.

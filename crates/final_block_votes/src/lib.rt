@@ -14,10 +14,10 @@ ghost use Rattle.final_spec.specs.Voters.{votes_for, own_vote};
 ghost use Rattle.final_block_votes.specs.Walk.{statement_votes, SortedStore, block_at_place};
 
 use committee_set::AuthoritySet;
-use record_reference_search::FoundPlace;
 use record_statement::BaseStatement;
 use record_statement_votes::Vote;
-use types::{BlockReference, Ordering, TransactionLocator, TransactionLocatorRange};
+use std::cmp::Ordering;
+use types::{BlockReference, TransactionLocator, TransactionLocatorRange};
 
 // ---- the vote of one block
 
@@ -156,11 +156,9 @@ pub fn sorted_positions(store: &[u8], order: &mut [u64]) -> usize
 {
     let count = base::read_u16(store, 8) as usize;
     let mut at = base::read_u32(store, 0) as usize;
-    let mut k: usize = 0;
-    while k < count {
+    for k in 0..count {
         order[k] = at as u64;
         at = base::read_u32(store, at) as usize;
-        k += 1;
     }
     count
 }
@@ -172,8 +170,8 @@ pub fn place_of(store: &[u8], order: &[u64], block: BlockReference) -> usize
 {
     let found = record_reference_search::find_place(store, order, 8, block);
     match found {
-        FoundPlace::At(k) => k,
+        Ok(k) => k,
         // Never so: the block is stored.
-        FoundPlace::Before(_) => 0,
+        Err(_) => 0,
     }
 }

@@ -45,13 +45,11 @@ pub fn find_certifying_blocks(
 {
     let mut authors = AuthoritySet::new();
     let mut blocks: usize = 0;
-    let mut k: usize = 0;
-    while k < order.len() {
+    for k in 0..order.len() {
         let at = order[k] as usize;
         let found = final_certificates::certifies_at(
             stakes, total, store, order, locator, reading, k, memo,
         );
-        k += 1;
         if !found {
             continue;
         }

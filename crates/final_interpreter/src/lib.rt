@@ -2,16 +2,14 @@
 #![tactic(auto)]
 
 ghost use Rattle.std.specs.Prelude.{◌≡◌};
-ghost use Rattle.types.specs.Values.{as_locator};
+ghost use Rattle.types.specs.Values.{as_locator, as_maybe};
 ghost use Rattle.final_spec.specs.Finality.{finality};
 ghost use Rattle.list_ordinary_spec.specs.FinalShares.{next_final_share};
 ghost use Rattle.final_question.specs.Answers.{as_finality};
-ghost use Rattle.list_after.specs.Answers.{as_maybe};
 ghost use Rattle.list_next.specs.Answers.{as_next_final};
 
-use final_question::FinalityAnswer;
-use list_after::MaybeLocator;
-use list_next::NextFinalAnswer;
+use base::Refusal;
+use final_question::FinalOrNot;
 use types::TransactionLocator;
 
 #[derive(Clone, Copy)]
@@ -31,7 +29,7 @@ pub fn finality<'s, 'a>(
     interpreter: Interpreter<'a>,
     positions: &mut [u64],
     locator: TransactionLocator,
-) -> FinalityAnswer
+) -> Result<FinalOrNot, Refusal>
     ensures { (as_finality result ≡ (finality stakes.now interpreter.entry.store.now positions.old (as_locator locator)).answer) × (positions.new ≡ (finality stakes.now interpreter.entry.store.now positions.old (as_locator locator)).positions) }
 {
     final_question::finality(stakes, interpreter.store, positions, locator)
@@ -41,8 +39,8 @@ pub fn finality<'s, 'a>(
 pub fn next_final<'s, 'a>(
     stakes: &'s [u64],
     interpreter: Interpreter<'a>,
-    after: MaybeLocator,
-) -> NextFinalAnswer
+    after: Option<TransactionLocator>,
+) -> Result<Option<TransactionLocator>, Refusal>
     ensures { as_next_final result ≡ next_final_share stakes.now interpreter.entry.store.now (as_maybe after) }
 {
     list_next::next_final(stakes, interpreter.store, after)
@@ -54,14 +52,18 @@ pub fn finality_held(
     store: &[u8],
     positions: &mut [u64],
     locator: TransactionLocator,
-) -> FinalityAnswer
+) -> Result<FinalOrNot, Refusal>
     ensures { (as_finality result ≡ (finality stakes.now store.now positions.old (as_locator locator)).answer) × (positions.new ≡ (finality stakes.now store.now positions.old (as_locator locator)).positions) }
 {
     finality(stakes, new(store), positions, locator)
 }
 
 // The next final stored share with plain parameters.
-pub fn next_final_held(stakes: &[u64], store: &[u8], after: MaybeLocator) -> NextFinalAnswer
+pub fn next_final_held(
+    stakes: &[u64],
+    store: &[u8],
+    after: Option<TransactionLocator>,
+) -> Result<Option<TransactionLocator>, Refusal>
     ensures { as_next_final result ≡ next_final_share stakes.now store.now (as_maybe after) }
 {
     next_final(stakes, new(store), after)

@@ -10,40 +10,39 @@ ghost use Rattle.final_readings_spec.specs.Readings.{withdrawing};
 ghost use Rattle.final_readings_spec.specs.Answers.{as_reading};
 ghost use Rattle.final_readings_spec.specs.Finality.{finality_in};
 
-use committee::NewCommittee;
+use base::Refusal;
 use final_readings_spec::Reading;
 use types::TransactionLocator;
 
-// Final or not, with the number of certifying blocks; or the refusal number.
+// Final or not, with the number of certifying blocks.
 #[derive(Clone, Copy)]
-pub enum FinalityAnswer {
+pub enum FinalOrNot {
     Final(u64),
     NotFinal(u64),
-    Refused(u64),
 }
 
 // Whether a locator is final in the reading that is asked for. The positions of the certifying blocks are written in ascending reference order;
-// the words past them stay.
+// the words past them stay (5, 10, 40).
 pub fn finality_in(
     stakes: &[u64],
     store: &[u8],
     positions: &mut [u64],
     locator: TransactionLocator,
     reading: Reading,
-) -> FinalityAnswer
+) -> Result<FinalOrNot, Refusal>
     ensures result_value { as_finality result ≡ (finality_in (as_reading reading) stakes.now store.now positions.old (as_locator locator)).answer }
     ensures positions_after { positions.new ≡ (finality_in (as_reading reading) stakes.now store.now positions.old (as_locator locator)).positions }
 {
-    let NewCommittee::Taken(total) = committee::new_committee(stakes) else {
-        return FinalityAnswer::Refused(5);
+    let Ok(total) = committee::new_committee(stakes) else {
+        return Err(Refusal::BrokenCommittee);
     };
     if !store_order::in_order(stakes, store) {
-        return FinalityAnswer::Refused(10);
+        return Err(Refusal::StoreNotInOrder);
     }
     let mut order = [0u64; types::MAX_BLOCKS];
     let count = final_block_votes::sorted_positions(store, &mut order);
     if positions.len() < count {
-        return FinalityAnswer::Refused(40);
+        return Err(Refusal::AnswerSlice);
     }
     let found = final_certifying::certifying_blocks_in(
         stakes,
@@ -55,9 +54,9 @@ pub fn finality_in(
         positions,
     );
     if committee::is_quorum(total, committee_set::stake_of(stakes, found.authors)) {
-        return FinalityAnswer::Final(found.blocks as u64);
+        return Ok(FinalOrNot::Final(found.blocks as u64));
     }
-    FinalityAnswer::NotFinal(found.blocks as u64)
+    Ok(FinalOrNot::NotFinal(found.blocks as u64))
 }
 
 // Whether a locator is final, and which blocks certify it.
@@ -66,7 +65,7 @@ pub fn finality(
     store: &[u8],
     positions: &mut [u64],
     locator: TransactionLocator,
-) -> FinalityAnswer
+) -> Result<FinalOrNot, Refusal>
     ensures result_value { as_finality result ≡ (finality stakes.now store.now positions.old (as_locator locator)).answer }
     ensures positions_after { positions.new ≡ (finality stakes.now store.now positions.old (as_locator locator)).positions }
 {
@@ -79,7 +78,7 @@ pub fn finality_withdrawing(
     store: &[u8],
     positions: &mut [u64],
     locator: TransactionLocator,
-) -> FinalityAnswer
+) -> Result<FinalOrNot, Refusal>
     ensures result_value { as_finality result ≡ (finality_in withdrawing stakes.now store.now positions.old (as_locator locator)).answer }
     ensures positions_after { positions.new ≡ (finality_in withdrawing stakes.now store.now positions.old (as_locator locator)).positions }
 {

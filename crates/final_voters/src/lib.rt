@@ -90,15 +90,13 @@ fn visit_includes(
     let at = order[k] as usize;
     let count = final_block_votes::include_count_at(store, at);
     let mut found = AuthoritySet::new();
-    let mut j: usize = 0;
-    while j < count {
+    for j in 0..count {
         let i = final_block_votes::place_of(
             store,
             order,
             final_block_votes::include_at(store, at, j),
         );
         found = committee_set::union(found, visit(store, order, locator, speech, i, memo));
-        j += 1;
     }
     found
 }

@@ -2,13 +2,13 @@
 use mathlib.Core.Path.{◌≡◌, refl, sym, ap, ◌∙◌}
 use mathlib.Core.Bool.{Bool, true, false}
 use mathlib.Core.List.{List, [], ◌∷◌, ◌++◌, flatten, append-nil}
-use Prim.Native.Nat.{ℕ, ◌≤◌}
+use Prim.Native.Nat.{ℕ}
 use native.Mathlib.Decide.{ℕ_discrete}
 use native.Mathlib.Omega.{arith}
 use lib.ListN.{length}
 use lib.Seq.{sets, drop-drop}
 use borrow.Author.Tests.{eq-eqb, ne_eqb}
-use Rattle.base.specs.Lists.{pick, all_of}
+use Rattle.base.specs.Lists.{pick}
 use Rattle.base.specs.Le.{le_bytes, le_at}
 use Rattle.base.specs.Checks.{◌⇒◌, refusal, passes, refused, answered, checked}
 use Rattle.base.proofs.Le.{AllBytes, length_le_bytes, sets_append}
@@ -17,11 +17,12 @@ use Rattle.committee_aggregator.specs.StakeAggregator.{StakeAggregator, add, add
 use Rattle.words.specs.Words.{words_in, bytes_of}
 use Rattle.words.proofs.Stores.{sets_complete}
 use Rattle.words.proofs.Words.{length_bytes_of, bytes_of_words_in}
-use Rattle.committee_vote_answer.specs.declared.AddAnswer.{AddAnswer}
 use Rattle.committee_vote_answer.specs.Answers.{as_add_answer}
 use Rattle.host_calls.specs.Calls.{encoded, committee_of}
 use Rattle.host_add.specs.Add.{aggregator_of, aggregator_bytes, numbered, AddCall, add_of, add_call}
-use Rattle.host_calls.proofs.Numbers.{refusal_most}
+use Rattle.std.specs.Prelude.{Result}
+use Rattle.base.specs.declared.refusal.Refusal.{Refusal}
+use Rattle.committee_vote_answer.specs.declared.Vote as vote-answer
 
 three_bytes : (a b c : ℕ) → bytes_of (a ∷ b ∷ c ∷ []) ≡ le_bytes 8 a ++ (le_bytes 8 b ++ le_bytes 8 c)
 unfolding bytes_of flatten
@@ -48,26 +49,6 @@ module _ (c : Committee) (b : List ℕ) (a : ℕ) where
   pub added_other : (length b ≡ 24 → ⊥) → add_of c b a ≡ record { answer = refused (refusal ((broken c ⇒ 5) ∷ (true ⇒ 6) ∷ [])); aggregator = b }
   unfolding add_of
   added_other h = rw (ne_eqb (length b) 24 h)
-
--- the numbers are at most 21
-add_most : (c : Committee) (g : StakeAggregator) (a n : ℕ) → numbered (add c g a).answer ≡ refused n → n ≤ 21
-unfolding numbered add checked add_checks all_of
-add_most c g a n e = go (passes (add_checks c g a)) e
-  where
-    go : (t : Bool) → numbered (pick t (answered (told c g a)) (refused (refusal (add_checks c g a)))) ≡ refused n → n ≤ 21
-    go true e = let z : ◌≡◌ {A = ℕ} 0 1 = cc in absurd (omega arith)
-    go false e = let z : refusal (add_checks c g a) ≡ n = cc in omega (arith, refusal_most 21 (add_checks c g a) refl)
-
-pub added_most : (c : Committee) (b : List ℕ) (a n : ℕ) → (add_of c b a).answer ≡ refused n → n ≤ 21
-unfolding all_of
-added_most c b a n e = by (ℕ_discrete (length b) 24)
-  where
-    by : Dec (length b ≡ 24) → n ≤ 21
-    by (yes h) = add_most c (aggregator_of b) a n (sym (ap (λ (x : AddCall). x.answer) (added_sized c b a h)) ∙ e)
-    by (no h) =
-        let f = sym (ap (λ (x : AddCall). x.answer) (added_other c b a h)) ∙ e in
-        let z : refusal ((broken c ⇒ 5) ∷ (true ⇒ 6) ∷ []) ≡ n = cc in
-        omega (arith, refusal_most 21 ((broken c ⇒ 5) ∷ (true ⇒ 6) ∷ []) refl)
 
 same_kept : (c : Committee) (g : StakeAggregator) (a n : ℕ) → numbered (add c g a).answer ≡ refused n → (add c g a).aggregator ≡ g
 unfolding numbered add checked
@@ -98,7 +79,7 @@ add_kept c b a n bytes e = by (ℕ_discrete (length b) 24)
         ∙ three_read b bytes h
 
 -- the call, once the stakes are read and the answer is told
-pub call_sound : (stakes b : List ℕ) (a : ℕ) (r : AddAnswer) (n : ℕ) {held out : List ℕ} → held ≡ committee_of stakes →
+pub call_sound : (stakes b : List ℕ) (a : ℕ) (r : Result vote-answer.Vote Refusal) (n : ℕ) {held out : List ℕ} → held ≡ committee_of stakes →
     (numbered (as_add_answer r) ≡ (add_of held b a).answer) × (out ≡ (add_of held b a).aggregator)
     → n ≡ encoded (numbered (as_add_answer r)) → (n ≡ encoded (add_call stakes b a).answer) × (out ≡ (add_call stakes b a).aggregator)
 unfolding add_call

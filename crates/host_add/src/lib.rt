@@ -3,6 +3,7 @@
 
 ghost use Rattle.std.specs.Prelude.{◌≡◌, true, [], ◌∷◌, length};
 ghost use Rattle.base.specs.Checks.{◌⇒◌, refusal};
+ghost use Rattle.base.specs.Refusals.{refusal_number};
 ghost use Rattle.committee.specs.Committee.{broken};
 ghost use Rattle.committee_vote_answer.specs.Answers.{as_add_answer};
 ghost use Rattle.committee_aggregator.specs.Answers.{as_aggregator};
@@ -10,10 +11,11 @@ ghost use Rattle.host_calls.specs.Calls.{encoded};
 ghost use Rattle.host_add.specs.Claims.{Claims};
 ghost use Rattle.host_add.specs.Add.{aggregator_of, aggregator_bytes, numbered, add_of, add_call};
 
-use committee::{AuthorityIndex, NewCommittee, Stake};
+use base::Refusal;
+use committee::{AuthorityIndex, Stake};
 use committee_aggregator::StakeAggregator;
 use committee_set::AuthoritySet;
-use committee_vote_answer::AddAnswer;
+use committee_vote_answer::Vote;
 
 fn read_aggregator(bytes: &[u8]) -> StakeAggregator
     requires { length bytes.now ≡ 24 }
@@ -36,20 +38,20 @@ pub fn write_aggregator(bytes: &mut [u8], aggregator: StakeAggregator)
 }
 
 // 5, or 6 for bytes that are no aggregator.
-fn no_aggregator(stakes: &[u64]) -> u64
-    ensures { result ≡ refusal ((broken stakes.now ⇒ 5) ∷ (true ⇒ 6) ∷ []) }
+fn no_aggregator(stakes: &[u64]) -> Refusal
+    ensures { refusal_number result ≡ refusal ((broken stakes.now ⇒ 5) ∷ (true ⇒ 6) ∷ []) }
 {
-    let NewCommittee::Taken(_) = committee::new_committee(stakes) else {
-        return 5;
+    let Ok(_) = committee::new_committee(stakes) else {
+        return Refusal::BrokenCommittee;
     };
-    6
+    Refusal::BrokenAggregator
 }
 
-fn add_of(stakes: &[u64], aggregator: &mut [u8], voter: u64) -> AddAnswer
+fn add_of(stakes: &[u64], aggregator: &mut [u8], voter: u64) -> Result<Vote, Refusal>
     ensures { (numbered (as_add_answer result) ≡ (add_of stakes.now aggregator.old voter).answer) × (aggregator.new ≡ (add_of stakes.now aggregator.old voter).aggregator) }
 {
     if aggregator.len() != 24 {
-        return AddAnswer::Refused(no_aggregator(stakes));
+        return Err(no_aggregator(stakes));
     }
     let held = read_aggregator(aggregator);
     let added = held.add(stakes, AuthorityIndex(voter));
@@ -67,11 +69,11 @@ pub fn add(stakes: &[u8], aggregator: &mut [u8], voter: u64) -> u64
     let mut held = [0u64; committee::MAX_MEMBERS];
     let n = host_calls::stakes_of(stakes, &mut held);
     match add_of(&held[..n], aggregator, voter) {
-        AddAnswer::RepeatedBelow => 0,
-        AddAnswer::RepeatedWith => 1,
-        AddAnswer::NewBelow => 2,
-        AddAnswer::NewWith(crossed) => { if crossed { 4 } else { 3 } }
-        AddAnswer::Refused(number) => host_calls::REFUSED + number,
+        Ok(Vote::RepeatedBelow) => 0,
+        Ok(Vote::RepeatedWith) => 1,
+        Ok(Vote::NewBelow) => 2,
+        Ok(Vote::NewWith(crossed)) => { if crossed { 4 } else { 3 } }
+        Err(refusal) => host_calls::refused(refusal),
     }
 }
 

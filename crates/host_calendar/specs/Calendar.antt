@@ -1,13 +1,12 @@
 -- The blast calendar, asked for by a host. Assumes nothing: these are definitions.
-use Rattle.std.specs.Prelude.{ℕ, ◌≤◌, ◌≡◌, Bool, true, false, not, ◌&&◌, List, [], ◌∷◌, ◌++◌, eqb, length, take}
+use Rattle.std.specs.Prelude.{ℕ, ◌≤◌, ◌≡◌, Bool, true, false, not, ◌&&◌, List, [], ◌∷◌, ◌++◌, eqb, length, take, None, Some}
 use Rattle.std.proofs.Math.Option.{Option, none, some}
 use Rattle.base.specs.Le.{Bytes, le_bytes}
 use Rattle.base.specs.Checks.{Check, ◌⇒◌, Answer, refused, answered, checked}
 use Rattle.words.specs.Words.{whole_words, words_of}
 use Rattle.calendar_windows.specs.Calendar.{windows, good_calendar, is_open, first_open}
 use Rattle.host_calls.specs.Calls.{flag}
-use Rattle.host_calendar.specs.declared.Held.{Held}
-use Rattle.host_calendar.specs.declared.Held.TheVariants.{Words, Malformed}
+use Rattle.std.specs.declared.option.Option as code
 
 -- a calendar crosses as words; bytes that are not whole words are no calendar: 59
 unfoldable pub good_bytes : Bytes → Bool
@@ -40,6 +39,6 @@ next_open_call b t out = found_in out (checked (next_open_checks b out) (first_o
 
 -- ---- machinery for the contract of `words_in`: the words of a good calendar in front, or bytes that are none
 
-abbrev pub holds_words : Held → Bytes → List ℕ → Type 0
-holds_words (Words n) b ws = (good_bytes b ≡ true) × ((n ≤ 128) × (take n ws ≡ words_of b))
-holds_words Malformed b ws = good_bytes b ≡ false
+abbrev pub holds_words : code.Option ℕ → Bytes → List ℕ → Type 0
+holds_words (Some n) b ws = (good_bytes b ≡ true) × ((n ≤ 128) × (take n ws ≡ words_of b))
+holds_words None b ws = good_bytes b ≡ false

@@ -1,5 +1,5 @@
 -- The greatest number with which a call can be refused. Assumes nothing.
-use mathlib.Core.Path.{◌≡◌, refl}
+use mathlib.Core.Path.{◌≡◌}
 use mathlib.Core.Bool.{Bool, true, false}
 use mathlib.Core.List.{List, [], ◌∷◌}
 use Prim.Native.Nat.{ℕ, ◌≤◌}
@@ -9,7 +9,6 @@ use borrow.Author.Tests.{leb-true}
 use Rattle.base.specs.Lists.{pick, all_of}
 use Rattle.base.specs.Checks.{Check, refusal, passes, Answer, refused, answered, checked}
 use Rattle.base.proofs.Tests.{and_left, and_right}
-use Rattle.committee.specs.Committee.{new_committee, committee_checks}
 
 -- a refusal is at most the greatest of its numbers
 pub refusal_most : (m : ℕ) (ks : List Check) → all_of (λ k. leb k.number m) ks ≡ true → refusal ks ≤ m
@@ -28,8 +27,3 @@ checked_most {A} m ks a n h e = go (passes ks) e
     go : (t : Bool) → ◌≡◌ {A = Answer A} (pick t (answered a) (refused (refusal ks))) (refused n) → n ≤ m
     go true e = let z : ◌≡◌ {A = ℕ} 0 1 = cc in absurd (omega arith)
     go false e = let z : refusal ks ≡ n = cc in omega (arith, refusal_most m ks h)
-
--- refusals of a committee are 1 to 4
-pub committee_refusals : (c : List ℕ) (n : ℕ) → new_committee c ≡ refused n → n ≤ 4
-unfolding new_committee committee_checks all_of
-committee_refusals c n e = checked_most 4 (committee_checks c) _ n refl e

@@ -3,9 +3,13 @@
 
 ghost use Rattle.std.specs.Prelude.{◌≡◌, ◌≤◌, eqb, length, take};
 ghost use Rattle.base.specs.Lists.{any_of};
+ghost use Rattle.base.specs.Checks.{refused};
+ghost use Rattle.base.specs.Refusals.{refusal_number};
 ghost use Rattle.words.specs.Words.{words_of};
-ghost use Rattle.host_calls.specs.Calls.{flag, committee_of};
+ghost use Rattle.host_calls.specs.Calls.{flag, committee_of, encoded};
 ghost use Rattle.host_calls.specs.Claims.{Claims};
+
+use base::Refusal;
 
 // A refusal is its number and this.
 pub const REFUSED: u64 = 9223372036854775808;
@@ -26,14 +30,19 @@ pub fn has_zero_word(bytes: &[u8]) -> bool
     ensures { result ≡ any_of (λ s. eqb s 0) (words_of bytes.now) }
 {
     let n = bytes.len() / 8;
-    let mut i = 0;
-    while i < n {
+    for i in 0..n {
         if words::word_at(bytes, 8 * i) == 0 {
             return true;
         }
-        i += 1;
     }
     false
+}
+
+// How a refusal crosses.
+pub fn refused(refusal: Refusal) -> u64
+    ensures { result ≡ encoded (refused (refusal_number refusal)) }
+{
+    REFUSED + refusal.number()
 }
 
 // Puts the stakes of a call in front and answers how many they are.

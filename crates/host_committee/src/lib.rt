@@ -6,26 +6,27 @@ ghost use Rattle.std.specs.Prelude.{◌≡◌};
 ghost use Rattle.committee.specs.Committee.{quorum_of, valid_of};
 ghost use Rattle.host_calls.specs.Calls.{encoded, flag, new_committee_call};
 
-use committee::{NewCommittee, Stake};
+use base::Refusal;
+use committee::Stake;
 
 // Sets a committee: its total stake.
 pub fn new_committee(stakes: &[u8]) -> u64
     ensures { result ≡ encoded (new_committee_call stakes.now) }
 {
     if stakes.len() % 8 != 0 {
-        return host_calls::REFUSED + 5;
+        return host_calls::refused(Refusal::BrokenCommittee);
     }
     if committee::MAX_MEMBERS < stakes.len() / 8 {
         if host_calls::has_zero_word(stakes) {
-            return host_calls::REFUSED + 2;
+            return host_calls::refused(Refusal::ZeroStake);
         }
-        return host_calls::REFUSED + 3;
+        return host_calls::refused(Refusal::TooManyMembers);
     }
     let mut held = [0u64; committee::MAX_MEMBERS];
     let n = host_calls::stakes_of(stakes, &mut held);
     match committee::new_committee(&held[..n]) {
-        NewCommittee::Taken(total) => total.0,
-        NewCommittee::Broken(number) => host_calls::REFUSED + number,
+        Ok(total) => total.0,
+        Err(refusal) => host_calls::refused(refusal),
     }
 }
 

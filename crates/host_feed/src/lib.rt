@@ -6,8 +6,6 @@ ghost use Rattle.std.specs.Prelude.{◌≡◌};
 ghost use Rattle.host_calls.specs.Calls.{encoded};
 ghost use Rattle.host_feed_bytes.specs.Feed.{feed_call};
 
-use feed_single::FeedAnswer;
-
 // Feeds a record: the number of events, which stand at the front, three words each.
 pub fn feed(stakes: &[u8], store: &mut [u8], table: &mut [u8], events: &mut [u8], rec: &[u8]) -> u64
     ensures value { result ≡ encoded (feed_call stakes.now store.old table.old events.old rec.now).answer }
@@ -18,7 +16,7 @@ pub fn feed(stakes: &[u8], store: &mut [u8], table: &mut [u8], events: &mut [u8]
     let mut held = [0u64; committee::MAX_MEMBERS];
     let n = host_calls::stakes_of(stakes, &mut held);
     match host_feed_bytes::feed_of(&held[..n], store, table, events, rec) {
-        FeedAnswer::Events(count) => count,
-        FeedAnswer::Refused(number) => host_calls::REFUSED + number,
+        Ok(count) => count,
+        Err(refusal) => host_calls::refused(refusal),
     }
 }

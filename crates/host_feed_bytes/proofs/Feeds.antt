@@ -1,17 +1,16 @@
 -- Feeding of a host. Assumes nothing.
-use mathlib.Core.Path.{◌≡◌, sym, ap, ◌∙◌}
+use mathlib.Core.Path.{◌≡◌, ◌∙◌}
 use mathlib.Core.Bool.{Bool, true, false}
 use mathlib.Core.List.{List, [], ◌∷◌, ◌++◌, map, flatten}
 use mathlib.Core.Option.{Option, none, some}
 use Prim.Native.Nat.{ℕ, ◌≤◌, ◌<◌}
-use native.Mathlib.Decide.{ℕ_discrete}
 use native.Mathlib.Omega.{arith}
 use lib.Dec.{lit<}
 use lib.ListN.{length}
 use borrow.Author.Tests.{eq-eqb, ne_eqb}
 use Rattle.base.specs.Lists.{pick}
 use Rattle.base.specs.Le.{Bytes}
-use Rattle.base.specs.Checks.{Check, ◌⇒◌, refusal, passes, Answer, refused}
+use Rattle.base.specs.Checks.{Check, ◌⇒◌, refusal, passes, refused}
 use Rattle.base.proofs.Lists.{Every, none_of, and, every, every_one, every_append, every_flatten}
 use Rattle.base.proofs.Refusals.{Numbered, refusal_first, refusal_then}
 use Rattle.committee.specs.Committee.{Committee}
@@ -27,8 +26,7 @@ use Rattle.feed_spec.specs.Feed.{feed_record}
 use Rattle.feed_spec.specs.Feed.{feed}
 use Rattle.feed_refusals.specs.Refusals.{early_checks}
 use Rattle.host_locators.specs.Locators.{refusal_before}
-use Rattle.host_feed_bytes.specs.Feed.{FeedCall, refused_call, fed_call, fed_with, feed_of}
-use Rattle.host_locators.proofs.Locators.{before_most}
+use Rattle.host_feed_bytes.specs.Feed.{refused_call, fed_call, fed_with, feed_of}
 
 -- ---- the numbers of a feed are 1 to 30
 
@@ -138,31 +136,6 @@ module _ (c : Committee) (s t v rec : List ℕ) where
   pub feed_sized : length t ≡ 49160 → length v ≡ 65536 → feed_of c s t v rec ≡ fed_call (fed_with c s (words_in 6145 t) (words_of v) rec)
   unfolding feed_of words_of
   feed_sized h k = rw (eq-eqb (length t) 49160 h, eq-eqb (length v) 65536 k, h)
-
-pub fed_most : (c : Committee) (s t v rec : List ℕ) (n : ℕ) → (feed_of c s t v rec).answer ≡ refused n → n ≤ 41
-unfolding refused_call fed_call fed_with
-fed_most c s t v rec n e = by (ℕ_discrete (length t) 49160) (ℕ_discrete (length v) 65536)
-  where
-    by : Dec (length t ≡ 49160) → Dec (length v ≡ 65536) → n ≤ 41
-    by (no h) k =
-        let f : ◌≡◌ {A = Answer ℕ} (refused (refusal_before 11 c s)) (refused n) = sym (ap (λ (x : FeedCall). x.answer) (feed_unsized c s t v rec h)) ∙ e in
-        let z : refusal_before 11 c s ≡ n = cc in
-        omega (arith, before_most 11 c s (omega arith))
-    by (yes h) (no k) =
-        let ks = early_checks c s (words_in 6145 t) rec ++ ((true ⇒ 15) ∷ []) in
-        let f : ◌≡◌ {A = Answer ℕ} (refused (refusal ks)) (refused n) = sym (ap (λ (x : FeedCall). x.answer) (feed_eventless c s t v rec h k)) ∙ e in
-        let z : refusal ks ≡ n = cc in
-        omega (
-          arith,
-          most ks (every_append (early_checks c s (words_in 6145 t) rec) _ (early_ordinary c s (words_in 6145 t) rec)
-              (and (lit< tt, lit< tt) none_of)),
-        )
-    by (yes h) (yes k) =
-        omega (
-          arith,
-          feed_most c (lent_of s (words_in 6145 t) (words_in 6145 t) (words_of v)) rec n
-              (sym (ap (λ (x : FeedCall). x.answer) (feed_sized c s t v rec h k)) ∙ e),
-        )
 
 -- ---- 15 comes after 5, 10, 11, 20 to 30
 

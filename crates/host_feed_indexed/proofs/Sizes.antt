@@ -1,32 +1,26 @@
 -- Feeding of a host with the index: sizes, the work slice, and how large a refusal number is. Assumes nothing.
-use mathlib.Core.Path.{◌≡◌, sym, ap, ◌∙◌}
-use mathlib.Core.Bool.{Bool, true, false}
+use mathlib.Core.Path.{◌≡◌, ◌∙◌}
+use mathlib.Core.Bool.{true}
 use mathlib.Core.List.{List, [], ◌∷◌, ◌++◌}
-use mathlib.Core.Option.{Option, none, some}
-use Prim.Native.Nat.{ℕ, ◌<◌}
-use native.Mathlib.Decide.{ℕ_discrete}
-use native.Mathlib.Omega.{arith}
+use Prim.Native.Nat.{ℕ}
 use lib.Dec.{lit<}
 use lib.ListN.{length}
 use borrow.Author.Tests.{eq-eqb, ne_eqb}
-use Rattle.base.specs.Lists.{pick}
 use Rattle.base.specs.Le.{Bytes}
-use Rattle.base.specs.Checks.{Check, ◌⇒◌, refusal, passes, Answer, refused}
-use Rattle.base.proofs.Lists.{none_of, and, every, every_append}
+use Rattle.base.specs.Checks.{◌⇒◌, refusal}
+use Rattle.base.proofs.Lists.{and}
 use Rattle.base.proofs.Refusals.{refusal_first, refusal_then}
 use Rattle.committee.specs.Committee.{Committee}
-use Rattle.store_spec.specs.Layout.{Record, read_record}
+use Rattle.store_spec.specs.Layout.{read_record}
 use Rattle.words.specs.Words.{words_in, words_of}
 use Rattle.feed_spec.specs.Pending.{pending_checks}
-use Rattle.feed_spec.specs.Feed.{Lent, lent_of, processed, record_checks, refused_feed, accepted_feed}
-use Rattle.index_feed_spec.specs.IndexedFeed.{indexed_lent_checks, room_checks, indexed_checks, refused_indexed, accepted_indexed, feed_indexed_record}
-use Rattle.index_feed_spec.specs.IndexedFeed.{feed_indexed}
+use Rattle.feed_spec.specs.Feed.{lent_of}
+use Rattle.index_feed_spec.specs.IndexedFeed.{indexed_lent_checks, feed_indexed}
 use Rattle.index_feed_refusals.specs.Refusals.{early_indexed_checks}
 use Rattle.host_locators.specs.Locators.{refusal_before}
-use Rattle.host_locators.proofs.Locators.{before_most}
-use Rattle.host_feed_bytes.proofs.Feeds.{Below, numbered, below, rules_ordinary}
-use Rattle.index_feed_many.proofs.Numbers.{ordinary, feed_below, work_free}
-use Rattle.host_feed_indexed.specs.IndexedFeed.{IndexedCall, refused_call, fed_call, fed_with, feed_indexed_of}
+use Rattle.host_feed_bytes.proofs.Feeds.{Below, numbered, rules_ordinary}
+use Rattle.index_feed_many.proofs.Numbers.{ordinary, work_free}
+use Rattle.host_feed_indexed.specs.IndexedFeed.{refused_call, fed_call, fed_with, feed_indexed_of}
 
 -- ---- the numbers are below 56
 
@@ -56,29 +50,6 @@ module _ (c : Committee) (s t ix v rec : List ℕ) where
   pub feed_sized : length t ≡ 49160 → length v ≡ 65536 → feed_indexed_of c s t ix v rec ≡ fed_call (fed_with c s (words_in 6145 t) ix (words_of v) rec)
   unfolding feed_indexed_of words_of
   feed_sized h k = rw (eq-eqb (length t) 49160 h, eq-eqb (length v) 65536 k, h)
-
-pub fed_below : (c : Committee) (s t ix v rec : List ℕ) (n : ℕ) → (feed_indexed_of c s t ix v rec).answer ≡ refused n → n < 56
-unfolding refused_call fed_call fed_with
-fed_below c s t ix v rec n e = by (ℕ_discrete (length t) 49160) (ℕ_discrete (length v) 65536)
-  where
-    by : Dec (length t ≡ 49160) → Dec (length v ≡ 65536) → n < 56
-    by (no h) k =
-        let f : ◌≡◌ {A = Answer ℕ} (refused (refusal_before 11 c s)) (refused n) = sym (ap (λ (x : IndexedCall). x.answer) (feed_unsized c s t ix v rec h)) ∙
-        e in
-        let z : refusal_before 11 c s ≡ n = cc in
-        omega (arith, before_most 11 c s (omega arith))
-    by (yes h) (no k) =
-        let ks = early_indexed_checks c s (words_in 6145 t) ix rec ++ ((true ⇒ 15) ∷ []) in
-        let f : ◌≡◌ {A = Answer ℕ} (refused (refusal ks)) (refused n) = sym (ap (λ (x : IndexedCall). x.answer) (feed_eventless c s t ix v rec h k)) ∙ e in
-        let z : refusal ks ≡ n = cc in
-        omega (
-          arith,
-          below 56 (lit< tt) ks (every_append (early_indexed_checks c s (words_in 6145 t) ix rec) _ (early_below c s (words_in 6145 t) ix rec)
-              (and (lit< tt, lit< tt) none_of)),
-        )
-    by (yes h) (yes k) =
-        feed_below c (lent_of s (words_in 6145 t) (words_in 6145 t) (words_of v)) ix rec n
-        (sym (ap (λ (x : IndexedCall). x.answer) (feed_sized c s t ix v rec h k)) ∙ e)
 
 -- ---- 15 comes after 5, 10, 11, 54, 20 to 30
 

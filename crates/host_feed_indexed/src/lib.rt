@@ -4,13 +4,14 @@
 
 ghost use Rattle.std.specs.Prelude.{◌≡◌, true, [], ◌∷◌, ◌++◌, length};
 ghost use Rattle.base.specs.Checks.{◌⇒◌, refusal};
+ghost use Rattle.base.specs.Refusals.{refusal_number};
 ghost use Rattle.words.specs.Words.{words_of, bytes_of};
 ghost use Rattle.feed_single.specs.Answers.{as_feed_answer};
 ghost use Rattle.index_feed_refusals.specs.Refusals.{early_indexed_checks};
 ghost use Rattle.host_calls.specs.Calls.{encoded};
 ghost use Rattle.host_feed_indexed.specs.IndexedFeed.{fed_with, feed_indexed_of, feed_indexed_call};
 
-use feed_single::FeedAnswer;
+use base::Refusal;
 
 // Feeds a record: the number of events, which stand at the front, three words each. Its part is appended to the index.
 pub fn feed_indexed(
@@ -30,8 +31,8 @@ pub fn feed_indexed(
     let mut held = [0u64; committee::MAX_MEMBERS];
     let n = host_calls::stakes_of(stakes, &mut held);
     match feed_of(&held[..n], store, table, index, events, rec) {
-        FeedAnswer::Events(count) => count,
-        FeedAnswer::Refused(number) => host_calls::REFUSED + number,
+        Ok(count) => count,
+        Err(refusal) => host_calls::refused(refusal),
     }
 }
 
@@ -42,7 +43,7 @@ fn feed_of(
     index: &mut [u64],
     events: &mut [u8],
     rec: &[u8],
-) -> FeedAnswer
+) -> Result<u64, Refusal>
     ensures result_value { as_feed_answer result ≡ (feed_indexed_of stakes.now store.old table.old index.old events.old rec.now).answer }
     ensures store_after { store.new ≡ (feed_indexed_of stakes.now store.old table.old index.old events.old rec.now).store }
     ensures table_after { table.new ≡ (feed_indexed_of stakes.now store.old table.old index.old events.old rec.now).table }
@@ -50,12 +51,12 @@ fn feed_of(
     ensures events_after { events.new ≡ (feed_indexed_of stakes.now store.old table.old index.old events.old rec.now).events }
 {
     if table.len() != host_calls::TABLE_BYTES {
-        return FeedAnswer::Refused(host_locators::refusal_before(11, stakes, store));
+        return Err(host_locators::refusal_before(Refusal::TableNotInOrder, stakes, store));
     }
     let mut words = [0u64; host_calls::TABLE_WORDS];
     words::words_of(table, &mut words);
     if events.len() != host_calls::EVENT_BYTES {
-        return FeedAnswer::Refused(no_events(stakes, store, &words, index, rec));
+        return Err(no_events(stakes, store, &words, index, rec));
     }
     let answer = feed_words(stakes, store, &mut words, index, events, rec);
     words::bytes_of(&words, table);
@@ -70,7 +71,7 @@ fn feed_words(
     index: &mut [u64],
     events: &mut [u8],
     rec: &[u8],
-) -> FeedAnswer
+) -> Result<u64, Refusal>
     requires { (length table.old ≡ 6145) × (length events.old ≡ 65536) }
     ensures result_value { as_feed_answer result ≡ (fed_with stakes.now store.old table.old index.old (words_of events.old) rec.now).fed.answer }
     ensures store_after { store.new ≡ (fed_with stakes.now store.old table.old index.old (words_of events.old) rec.now).fed.store }
@@ -89,12 +90,11 @@ fn feed_words(
 }
 
 // 15 for events of another size, after 5, 10, 11, 54, 20 to 30.
-fn no_events(stakes: &[u64], store: &[u8], table: &[u64], index: &[u64], rec: &[u8]) -> u64
-    ensures { result ≡ refusal (early_indexed_checks stakes.now store.now table.now index.now rec.now ++ ((true ⇒ 15) ∷ [])) }
+fn no_events(stakes: &[u64], store: &[u8], table: &[u64], index: &[u64], rec: &[u8]) -> Refusal
+    ensures { refusal_number result ≡ refusal (early_indexed_checks stakes.now store.now table.now index.now rec.now ++ ((true ⇒ 15) ∷ [])) }
 {
-    let early = index_feed_refusals::early_refusal(stakes, store, table, index, rec);
-    if early != 0 {
+    if let Err(early) = index_feed_refusals::early_refusal(stakes, store, table, index, rec) {
         return early;
     }
-    15
+    Refusal::EventsTooShort
 }

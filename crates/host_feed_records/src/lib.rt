@@ -7,7 +7,7 @@ ghost use Rattle.feed_many.specs.Answers.{as_records_answer};
 ghost use Rattle.host_calls.specs.Calls.{encoded};
 ghost use Rattle.host_feed_records.specs.FeedRecords.{feed_records_of, feed_records_call};
 
-use feed_many::RecordsAnswer;
+use base::Refusal;
 
 // Feeds records one after the other, each after its length in four bytes: their number. Each has its outcome, a word, and the events of the
 // accepted ones stand at the front.
@@ -28,8 +28,8 @@ pub fn feed_records(
     let mut held = [0u64; committee::MAX_MEMBERS];
     let n = host_calls::stakes_of(stakes, &mut held);
     match feed_records_of(&held[..n], store, table, events, outcomes, records) {
-        RecordsAnswer::Records(count) => count,
-        RecordsAnswer::Refused(number) => host_calls::REFUSED + number,
+        Ok(count) => count,
+        Err(refusal) => host_calls::refused(refusal),
     }
 }
 
@@ -40,7 +40,7 @@ fn feed_records_of(
     events: &mut [u64],
     outcomes: &mut [u64],
     records: &[u8],
-) -> RecordsAnswer
+) -> Result<u64, Refusal>
     ensures result_value { as_records_answer result ≡ (feed_records_of stakes.now store.old table.old events.old outcomes.old records.now).answer }
     ensures store_after { store.new ≡ (feed_records_of stakes.now store.old table.old events.old outcomes.old records.now).store }
     ensures table_after { table.new ≡ (feed_records_of stakes.now store.old table.old events.old outcomes.old records.now).table }
@@ -48,7 +48,7 @@ fn feed_records_of(
     ensures outcomes_after { outcomes.new ≡ (feed_records_of stakes.now store.old table.old events.old outcomes.old records.now).outcomes }
 {
     if table.len() != host_calls::TABLE_BYTES {
-        return RecordsAnswer::Refused(host_locators::refusal_before(11, stakes, store));
+        return Err(host_locators::refusal_before(Refusal::TableNotInOrder, stakes, store));
     }
     let mut words = [0u64; host_calls::TABLE_WORDS];
     words::words_of(table, &mut words);

@@ -1,19 +1,20 @@
 -- How the questions about the lists and their answers cross. Assumes nothing: these are definitions.
-use Rattle.std.specs.Prelude.{ℕ, ◌+◌, ◌*◌, ◌%◌, ◌^◌, ◌≤◌, ◌<◌, ◌≡◌, Bool, ◌&&◌, eqb, leb, length}
+use Rattle.std.specs.Prelude.{ℕ, ◌+◌, ◌*◌, ◌%◌, ◌^◌, ◌<◌, Bool, ◌&&◌, eqb, leb, length, Err, Ok, Result}
 use Rattle.std.proofs.Math.Option.{Option, none, some}
 use Rattle.base.specs.Lists.{pick}
 use Rattle.base.specs.Le.{Bytes}
 use Rattle.base.specs.Checks.{Answer, refused, answered}
 use Rattle.record_spec.specs.Reference.{TransactionLocator}
 use Rattle.record_spec.specs.Record.{locator_bytes}
-use Rattle.list_after.specs.Answers.{as_maybe}
+use Rattle.types.specs.Values.{as_maybe}
 use Rattle.list_stretches_spec.specs.Bulk.{Given}
-use Rattle.list_stretch_bytes.specs.declared.StretchesAnswer.{StretchesAnswer}
-use Rattle.list_stretch_bytes.specs.declared.StretchesAnswer.TheVariants.{Last, More, Refused}
-use Rattle.host_final_answers.specs.declared.After.{After}
-use Rattle.host_final_answers.specs.declared.After.TheVariants.{Place, Malformed}
+use Rattle.std.specs.declared.option.Option as code
+use Rattle.types.specs.declared.TransactionLocator as locators
 use Rattle.host_calls.specs.Calls.{flag}
 use Rattle.host_locators.specs.Locators.{locator_of}
+use Rattle.base.specs.declared.refusal.Refusal.{Refusal}
+use Rattle.list_stretch_bytes.specs.declared.Stretches as stretches-answer
+use Rattle.list_stretch_bytes.specs.declared.Stretches.TheVariants.{Last, More}
 
 unfoldable pub after_locator : Option TransactionLocator → Option (Option TransactionLocator)
 after_locator none = none
@@ -24,9 +25,9 @@ unfoldable pub after_of : Bytes → Option (Option TransactionLocator)
 after_of b = pick (eqb (length b) 0) (some none) (after_locator (locator_of b))
 
 -- the same as the code has it
-unfoldable pub as_after : After → Option (Option TransactionLocator)
-as_after (Place m) = some (as_maybe m)
-as_after Malformed = none
+unfoldable pub as_after : Result (code.Option locators.TransactionLocator) Refusal → Option (Option TransactionLocator)
+as_after (Ok m) = some (as_maybe m)
+as_after (Err r) = none
 
 -- what the question for the next locator answers, and the bytes that it was lent for it afterwards
 pub record NextFinalCall : Type 0 where
@@ -48,11 +49,8 @@ unfoldable pub stretches_number : Answer Given → Answer ℕ
 stretches_number (answered g) = answered (2 * g.stretches + flag g.more)
 stretches_number (refused n) = refused n
 
--- machinery for the contracts: counts and numbers that leave room for the answer's word; 54 is the greatest number
-abbrev pub number_fits : Answer (Option TransactionLocator) → Type 0
-number_fits a = (n : ℕ) → a ≡ refused n → n ≤ 54
-
-abbrev pub counts_fit : StretchesAnswer → Type 0
-counts_fit (Last n) = n < 2 ^ 62
-counts_fit (More n) = n < 2 ^ 62
-counts_fit (Refused n) = n ≤ 54
+-- machinery for the contracts: counts that leave room for the answer's word
+abbrev pub counts_fit : Result stretches-answer.Stretches Refusal → Type 0
+counts_fit (Ok (Last n)) = n < 2 ^ 62
+counts_fit (Ok (More n)) = n < 2 ^ 62
+counts_fit (Err r) = Unit {0}

@@ -18,13 +18,16 @@ use Rattle.final_spec.specs.Finality.{Finality, finality_checks, blocks_of}
 use Rattle.final_readings_spec.specs.Readings.{Reading, is_final_in}
 use Rattle.final_readings_spec.specs.Finality.{certifying_positions_in, finality_in}
 use Rattle.final_question.specs.Answers.{as_finality}
-use Rattle.final_question.specs.declared.FinalityAnswer.{FinalityAnswer}
-use Rattle.final_question.specs.declared.FinalityAnswer.TheVariants.{Final, NotFinal, Refused}
 use Rattle.record_reference_bytes.specs.Step.{locator_at}
 use Rattle.host_locators.specs.Locators.{locator_of, refusal_before}
 use Rattle.host_finality.specs.Finality.{FinalityCall, finality_number, finality_of, asked_finality, numbers_fit}
 use Rattle.host_calls.proofs.Numbers.{checked_most}
 use Rattle.host_locators.proofs.Locators.{locator_none, locator_read}
+use Rattle.std.specs.Prelude.{Err, Ok, Result}
+use Rattle.base.specs.declared.refusal.Refusal.{Refusal}
+use Rattle.base.specs.Refusals.{refusal_number}
+use Rattle.final_question.specs.declared.FinalOrNot.{FinalOrNot}
+use Rattle.final_question.specs.declared.FinalOrNot.TheVariants.{Final, NotFinal}
 
 -- the numbers of the question are at most 41 (40 is its greatest)
 pub finality_most : (reading : Reading) (c : Committee) (s ps : List ℕ) (l : TransactionLocator) (n : ℕ) → (finality_in reading c s ps l).answer ≡ refused n → n
@@ -52,12 +55,12 @@ finality_count reading c s ps l f e k = by (passes (finality_checks c s ps)) e k
     by false e k = let z : ◌≡◌ {A = ℕ} 0 1 = cc in absurd (omega arith)
 
 -- so its answer leaves room for the word
-pub finality_fits : (reading : Reading) (c : Committee) (s ps : List ℕ) (l : TransactionLocator) (r : FinalityAnswer) → length ps ≡ 1024
+pub finality_fits : (reading : Reading) (c : Committee) (s ps : List ℕ) (l : TransactionLocator) (r : Result FinalOrNot Refusal) → length ps ≡ 1024
     → as_finality r ≡ (finality_in reading c s ps l).answer → length (finality_in reading c s ps l).positions ≡ length ps → numbers_fit r
 unfolding as_finality
-finality_fits reading c s ps l (Final n) h e k = omega (arith, finality_count reading c s ps l _ (sym e) k)
-finality_fits reading c s ps l (NotFinal n) h e k = omega (arith, finality_count reading c s ps l _ (sym e) k)
-finality_fits reading c s ps l (Refused n) h e k = finality_most reading c s ps l n (sym e)
+finality_fits reading c s ps l (Ok (Final n)) h e k = omega (arith, finality_count reading c s ps l _ (sym e) k)
+finality_fits reading c s ps l (Ok (NotFinal n)) h e k = omega (arith, finality_count reading c s ps l _ (sym e) k)
+finality_fits reading c s ps l (Err r) h e k = finality_most reading c s ps l (refusal_number r) (sym e)
 
 -- a refused question leaves the words as they were
 words_kept : (reading : Reading) (c : Committee) (s ws : List ℕ) (l : TransactionLocator) (n : ℕ) → finality_number (finality_in reading c s ws l).answer ≡

@@ -1,5 +1,5 @@
 -- The finality question of a host, in either reading. Assumes nothing: these are definitions.
-use Rattle.std.specs.Prelude.{ℕ, ◌+◌, ◌*◌, ◌≤◌, eqb, length}
+use Rattle.std.specs.Prelude.{ℕ, ◌+◌, ◌*◌, ◌≤◌, eqb, length, Err, Ok, Result}
 use Rattle.std.proofs.Math.Option.{Option, none, some}
 use Rattle.base.specs.Lists.{pick}
 use Rattle.base.specs.Le.{Bytes}
@@ -10,10 +10,12 @@ use Rattle.words.specs.Words.{words_of, bytes_of}
 use Rattle.final_spec.specs.Finality.{Finality}
 use Rattle.final_readings_spec.specs.Readings.{Reading}
 use Rattle.final_readings_spec.specs.Finality.{finality_in}
-use Rattle.final_question.specs.declared.FinalityAnswer.{FinalityAnswer}
-use Rattle.final_question.specs.declared.FinalityAnswer.TheVariants.{Final, NotFinal, Refused}
 use Rattle.host_calls.specs.Calls.{committee_of}
 use Rattle.host_locators.specs.Locators.{locator_of, refusal_before}
+use Rattle.base.specs.declared.refusal.Refusal.{Refusal}
+use Rattle.base.specs.Refusals.{refusal_number}
+use Rattle.final_question.specs.declared.FinalOrNot.{FinalOrNot}
+use Rattle.final_question.specs.declared.FinalOrNot.TheVariants.{Final, NotFinal}
 
 -- what the question answers, and the position bytes that it was lent afterwards
 pub record FinalityCall : Type 0 where
@@ -43,7 +45,7 @@ unfoldable pub finality_call : Reading → Bytes → Bytes → Bytes → Bytes �
 finality_call reading stakes s ps b = asked_finality reading (committee_of stakes) s ps (locator_of b)
 
 -- machinery for the contracts of private functions: counts and numbers that leave room for the answer's word
-abbrev pub numbers_fit : FinalityAnswer → Type 0
-numbers_fit (Final n) = n ≤ 1024
-numbers_fit (NotFinal n) = n ≤ 1024
-numbers_fit (Refused n) = n ≤ 41
+abbrev pub numbers_fit : Result FinalOrNot Refusal → Type 0
+numbers_fit (Ok (Final n)) = n ≤ 1024
+numbers_fit (Ok (NotFinal n)) = n ≤ 1024
+numbers_fit (Err r) = refusal_number r ≤ 41

@@ -9,7 +9,8 @@ ghost use Rattle.host_locators.specs.Locators.{locator_of};
 ghost use Rattle.host_finality.specs.Finality.{finality_number, asked_finality, finality_call, numbers_fit};
 ghost use Rattle.host_finality.specs.Claims.{Claims};
 
-use final_question::FinalityAnswer;
+use base::Refusal;
+use final_question::FinalOrNot;
 use final_readings_spec::Reading;
 
 // The question itself, with the positions as words.
@@ -19,7 +20,7 @@ fn finality_words(
     positions: &mut [u8],
     locator: &[u8],
     reading: Reading,
-) -> FinalityAnswer
+) -> Result<FinalOrNot, Refusal>
     requires { (length locator.now ≡ 56) × (length positions.old ≡ 8192) }
     ensures asked { (finality_number (as_finality result) ≡ (asked_finality (as_reading reading) stakes.now store.now positions.old (locator_of locator.now)).answer) × (positions.new ≡ (asked_finality (as_reading reading) stakes.now store.now positions.old (locator_of locator.now)).positions) }
     ensures bounded { numbers_fit result }
@@ -38,15 +39,15 @@ fn finality_of(
     positions: &mut [u8],
     locator: &[u8],
     reading: Reading,
-) -> FinalityAnswer
+) -> Result<FinalOrNot, Refusal>
     ensures asked { (finality_number (as_finality result) ≡ (asked_finality (as_reading reading) stakes.now store.now positions.old (locator_of locator.now)).answer) × (positions.new ≡ (asked_finality (as_reading reading) stakes.now store.now positions.old (locator_of locator.now)).positions) }
     ensures bounded { numbers_fit result }
 {
     if locator.len() != types::LOCATOR_BYTES {
-        return FinalityAnswer::Refused(host_locators::refusal_before(20, stakes, store));
+        return Err(host_locators::refusal_before(Refusal::Malformed, stakes, store));
     }
     if positions.len() != host_calls::POSITION_BYTES {
-        return FinalityAnswer::Refused(host_locators::refusal_before(40, stakes, store));
+        return Err(host_locators::refusal_before(Refusal::AnswerSlice, stakes, store));
     }
     finality_words(stakes, store, positions, locator, reading)
 }
@@ -65,9 +66,9 @@ pub fn finality_call(
     let mut held = [0u64; committee::MAX_MEMBERS];
     let n = host_calls::stakes_of(stakes, &mut held);
     match finality_of(&held[..n], store, positions, locator, reading) {
-        FinalityAnswer::Final(count) => 2 * count + 1,
-        FinalityAnswer::NotFinal(count) => 2 * count,
-        FinalityAnswer::Refused(number) => host_calls::REFUSED + number,
+        Ok(FinalOrNot::Final(count)) => 2 * count + 1,
+        Ok(FinalOrNot::NotFinal(count)) => 2 * count,
+        Err(refusal) => host_calls::refused(refusal),
     }
 }
 

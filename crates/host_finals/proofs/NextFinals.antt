@@ -1,29 +1,19 @@
 -- The next locator of a list, for a host. Assumes nothing.
-use mathlib.Core.Path.{◌≡◌, refl}
+use mathlib.Core.Path.{◌≡◌}
 use mathlib.Core.Bool.{true, false}
 use mathlib.Core.List.{List}
 use mathlib.Core.Option.{Option, none, some}
-use Prim.Native.Nat.{ℕ, ◌≤◌}
-use native.Mathlib.Omega.{arith}
+use Prim.Native.Nat.{ℕ}
 use lib.Dec.{eqb}
 use lib.ListN.{length}
-use Rattle.base.specs.Lists.{all_of}
 use Rattle.base.specs.Checks.{Answer, refused}
 use Rattle.committee.specs.Committee.{Committee}
 use Rattle.record_spec.specs.Reference.{TransactionLocator}
-use Rattle.final_spec.specs.NextFinal.{next_final_checks}
 use Rattle.list_stretches_spec.specs.Stretches.{Listing}
 use Rattle.list_stretches_spec.specs.Bulk.{list_next}
 use Rattle.host_locators.specs.Locators.{refusal_before}
 use Rattle.host_finals.specs.NextFinal.{asked_next_final}
-use Rattle.host_final_answers.specs.Answers.{found_in, number_fits}
-use Rattle.host_calls.proofs.Numbers.{checked_most}
-
-pub next_fits : (c : Committee) (s : List ℕ) (k : Listing) (after : Option TransactionLocator) → number_fits (list_next c s k after)
-next_fits c s k after n e = omega (arith, most n e)
-  where
-    most : (n : ℕ) → list_next c s k after ≡ refused n → n ≤ 10
-    most n e = unfold list_next next_final_checks all_of in checked_most 10 (next_final_checks c s) _ n refl e
+use Rattle.host_final_answers.specs.Answers.{found_in}
 
 module _ (c : Committee) (s : List ℕ) (k : Listing) (o : Option (Option TransactionLocator)) (out : List ℕ) where
   pub next_malformed : o ≡ none → asked_next_final c s k o out ≡ record { answer = refused (refusal_before 20 c s); found = out }

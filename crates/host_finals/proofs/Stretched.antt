@@ -1,12 +1,12 @@
 -- A list in bulk, for a host. Assumes nothing.
-use mathlib.Core.Path.{◌≡◌, refl, sym, ap}
+use mathlib.Core.Path.{◌≡◌, sym, ap}
 use mathlib.Core.Bool.{Bool, true, false}
 use mathlib.Core.List.{List, ◌∷◌}
 use mathlib.Core.Option.{Option, none, some}
 use Prim.Native.Nat.{ℕ, zero, suc, ◌^◌, ◌≤◌, ◌<◌}
 use native.Mathlib.Omega.{arith}
 use lib.ListN.{length}
-use Rattle.base.specs.Lists.{pick, all_of}
+use Rattle.base.specs.Lists.{pick}
 use Rattle.base.specs.Checks.{refusal, passes, Answer, refused, answered, checked}
 use Rattle.committee.specs.Committee.{Committee}
 use Rattle.record_spec.specs.Reference.{TransactionLocator}
@@ -16,12 +16,13 @@ use Rattle.final_spec.specs.NextFinal.{next_final_checks}
 use Rattle.list_stretch_bytes.specs.Answers.{as_stretches}
 use Rattle.list_stretches_spec.specs.Stretches.{Listing, last_locator, stretch_at, from_found, stretches}
 use Rattle.list_stretches_spec.specs.Bulk.{Given, given_after, stretch_room, list_stretches}
-use Rattle.list_stretch_bytes.specs.declared.StretchesAnswer.{StretchesAnswer}
-use Rattle.list_stretch_bytes.specs.declared.StretchesAnswer.TheVariants.{Last, More, Refused}
 use Rattle.host_locators.specs.Locators.{refusal_before}
 use Rattle.host_finals.specs.Stretches.{stretches_in, asked_stretches}
 use Rattle.host_final_answers.specs.Answers.{whole_stretches, counts_fit}
-use Rattle.host_calls.proofs.Numbers.{checked_most}
+use Rattle.std.specs.Prelude.{Err, Ok, Result}
+use Rattle.base.specs.declared.refusal.Refusal.{Refusal}
+use Rattle.list_stretch_bytes.specs.declared.Stretches as stretches-answer
+use Rattle.list_stretch_bytes.specs.declared.Stretches.TheVariants.{Last, More}
 
 -- no more stretches than asked for
 pub few_stretches : (c : Committee) (bs : List Block) (k : Listing) (n : ℕ) (after : Option TransactionLocator) → length (stretches c bs k n after) ≤ n
@@ -47,15 +48,13 @@ given_few c s ws k after g e = by (passes (next_final_checks c s)) e
     by true e = let z : told ≡ g = cc in omega (arith, ap (λ (x : Given). x.stretches) z, few_stretches c (blocks_of s) k (stretch_room ws) after)
     by false e = let z : ◌≡◌ {A = ℕ} 0 1 = cc in absurd (omega arith)
 
-pub counts_fit_lem : (c : Committee) (s ws : List ℕ) (k : Listing) (after : Option TransactionLocator) (r : StretchesAnswer) → length ws < 2 ^ 64
+pub counts_fit_lem : (c : Committee) (s ws : List ℕ) (k : Listing) (after : Option TransactionLocator) (r : Result stretches-answer.Stretches Refusal)
+    → length ws < 2 ^ 64
     → as_stretches r ≡ (list_stretches c s k ws after).answer → counts_fit r
 unfolding as_stretches
-counts_fit_lem c s ws k after (Last n) h e = omega (arith, given_few c s ws k after _ (sym e))
-counts_fit_lem c s ws k after (More n) h e = omega (arith, given_few c s ws k after _ (sym e))
-counts_fit_lem c s ws k after (Refused n) h e = omega (arith, few_numbers n (sym e))
-  where
-    few_numbers : (n : ℕ) → (list_stretches c s k ws after).answer ≡ refused n → n ≤ 10
-    few_numbers n e = unfold list_stretches next_final_checks all_of in checked_most 10 (next_final_checks c s) _ n refl e
+counts_fit_lem c s ws k after (Ok (Last n)) h e = omega (arith, given_few c s ws k after _ (sym e))
+counts_fit_lem c s ws k after (Ok (More n)) h e = omega (arith, given_few c s ws k after _ (sym e))
+counts_fit_lem c s ws k after (Err r) h e = tt
 
 module _ (c : Committee) (s : List ℕ) (k : Listing) (o : Option (Option TransactionLocator)) (out : List ℕ) where
   pub stretches_malformed : o ≡ none → asked_stretches c s k o out ≡ record { answer = refused (refusal_before 20 c s); stretches = out }

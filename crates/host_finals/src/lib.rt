@@ -11,8 +11,8 @@ ghost use Rattle.host_final_answers.specs.Answers.{after_of};
 ghost use Rattle.host_finals.specs.NextFinal.{asked_next_final};
 ghost use Rattle.host_finals.specs.Stretches.{asked_stretches};
 
+use base::Refusal;
 use final_readings_spec::Reading;
-use host_final_answers::After;
 use list_readings_spec::FinalList;
 
 // ---- the next locator of a list
@@ -27,11 +27,13 @@ pub fn next_final_of(
 ) -> u64
     ensures { (result ≡ encoded (asked_next_final stakes.now store.now (listing (is_ordinary list) (as_reading reading) stakes.now (blocks_of store.now)) (after_of after.now) found.old).answer) × (found.new ≡ (asked_next_final stakes.now store.now (listing (is_ordinary list) (as_reading reading) stakes.now (blocks_of store.now)) (after_of after.now) found.old).found) }
 {
-    let After::Place(place) = host_final_answers::after_of(after) else {
-        return host_calls::REFUSED + host_locators::refusal_before(20, stakes, store);
+    let Ok(place) = host_final_answers::after_of(after) else {
+        let refusal = host_locators::refusal_before(Refusal::Malformed, stakes, store);
+        return host_calls::refused(refusal);
     };
     if !host_final_answers::holds_locator(found) {
-        return host_calls::REFUSED + host_locators::refusal_before(40, stakes, store);
+        let refusal = host_locators::refusal_before(Refusal::AnswerSlice, stakes, store);
+        return host_calls::refused(refusal);
     }
     let answer = list_next::next_listed(stakes, store, list, reading, place);
     host_final_answers::found_in(found, answer)
@@ -49,11 +51,13 @@ pub fn stretches_of(
 ) -> u64
     ensures { (result ≡ encoded (asked_stretches stakes.now store.now (listing (is_ordinary list) (as_reading reading) stakes.now (blocks_of store.now)) (after_of after.now) out.old).answer) × (out.new ≡ (asked_stretches stakes.now store.now (listing (is_ordinary list) (as_reading reading) stakes.now (blocks_of store.now)) (after_of after.now) out.old).stretches) }
 {
-    let After::Place(place) = host_final_answers::after_of(after) else {
-        return host_calls::REFUSED + host_locators::refusal_before(20, stakes, store);
+    let Ok(place) = host_final_answers::after_of(after) else {
+        let refusal = host_locators::refusal_before(Refusal::Malformed, stakes, store);
+        return host_calls::refused(refusal);
     };
     if !host_final_answers::holds_stretches(out) {
-        return host_calls::REFUSED + host_locators::refusal_before(40, stakes, store);
+        let refusal = host_locators::refusal_before(Refusal::AnswerSlice, stakes, store);
+        return host_calls::refused(refusal);
     }
     let answer = list_bulk::list_stretches(stakes, store, list, reading, out, place);
     host_final_answers::stretches_number(answer)

@@ -2,6 +2,7 @@
 #![tactic(auto)]
 
 ghost use Rattle.std.specs.Prelude.{◌≡◌};
+ghost use Rattle.base.specs.Refusals.{refusal_number};
 ghost use Rattle.final_spec.specs.Finality.{blocks_of};
 ghost use Rattle.final_readings_spec.specs.Readings.{old};
 ghost use Rattle.list_readings_spec.specs.Answers.{is_ordinary};
@@ -10,18 +11,17 @@ ghost use Rattle.host_calls.specs.Calls.{encoded};
 ghost use Rattle.host_final_answers.specs.Answers.{after_of};
 ghost use Rattle.host_index_finals.specs.Indexed.{refusal_indexed, asked_stretches_indexed};
 
-use host_final_answers::After;
+use base::Refusal;
 use list_readings_spec::FinalList;
 
-// The number of a refusal that applies in any case: 5, 10 and 54 come first.
-fn refusal_indexed(number: u64, stakes: &[u64], store: &[u8], index: &[u64]) -> u64
-    ensures { result ≡ refusal_indexed number stakes.now store.now index.now }
+// A refusal that applies in any case: 5, 10 and 54 come first.
+fn refusal_indexed(refusal: Refusal, stakes: &[u64], store: &[u8], index: &[u64]) -> Refusal
+    ensures { refusal_number result ≡ refusal_indexed (refusal_number refusal) stakes.now store.now index.now }
 {
-    let refusal = index_lent::indexed_refusal(stakes, store, index);
-    if refusal != 0 {
-        return refusal;
+    if let Err(lent) = index_lent::indexed_refusal(stakes, store, index) {
+        return lent;
     }
-    number
+    refusal
 }
 
 pub fn stretches_of(
@@ -34,11 +34,11 @@ pub fn stretches_of(
 ) -> u64
     ensures { (result ≡ encoded (asked_stretches_indexed stakes.now store.now index.now (listing (is_ordinary list) old stakes.now (blocks_of store.now)) (after_of after.now) out.old).answer) × (out.new ≡ (asked_stretches_indexed stakes.now store.now index.now (listing (is_ordinary list) old stakes.now (blocks_of store.now)) (after_of after.now) out.old).stretches) }
 {
-    let After::Place(place) = host_final_answers::after_of(after) else {
-        return host_calls::REFUSED + refusal_indexed(20, stakes, store, index);
+    let Ok(place) = host_final_answers::after_of(after) else {
+        return host_calls::refused(refusal_indexed(Refusal::Malformed, stakes, store, index));
     };
     if !host_final_answers::holds_stretches(out) {
-        return host_calls::REFUSED + refusal_indexed(40, stakes, store, index);
+        return host_calls::refused(refusal_indexed(Refusal::AnswerSlice, stakes, store, index));
     }
     let answer = index_list::list_stretches_indexed(stakes, store, list, index, out, place);
     host_final_answers::stretches_number(answer)

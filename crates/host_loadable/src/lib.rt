@@ -10,16 +10,20 @@ ghost use Rattle.host_calls.specs.Calls.{encoded};
 ghost use Rattle.host_locators.specs.Locators.{locator_of, asked};
 ghost use Rattle.host_loadable.specs.Loading.{is_loadable_call, loadable_call};
 
+use base::Refusal;
 use final_readings_spec::Reading;
-use load_list::LoadableList;
-use load_question::LoadableAnswer;
 
 // 20 for bytes that are no locator, after 5 and 10.
-fn is_loadable_of(stakes: &[u64], store: &[u8], reading: Reading, locator: &[u8]) -> LoadableAnswer
+fn is_loadable_of(
+    stakes: &[u64],
+    store: &[u8],
+    reading: Reading,
+    locator: &[u8],
+) -> Result<bool, Refusal>
     ensures { as_loadable result ≡ asked stakes.now store.now (loadable_question_in (as_reading reading) stakes.now store.now) (locator_of locator.now) }
 {
     if locator.len() != types::LOCATOR_BYTES {
-        return LoadableAnswer::Refused(host_locators::refusal_before(20, stakes, store));
+        return Err(host_locators::refusal_before(Refusal::Malformed, stakes, store));
     }
     let share = record_reference_bytes::read_locator(locator, 0);
     load_question::is_loadable_in(stakes, store, reading, share)
@@ -32,9 +36,9 @@ fn is_loadable_in(stakes: &[u8], store: &[u8], reading: Reading, locator: &[u8])
     let mut held = [0u64; committee::MAX_MEMBERS];
     let n = host_calls::stakes_of(stakes, &mut held);
     match is_loadable_of(&held[..n], store, reading, locator) {
-        LoadableAnswer::Loadable => 1,
-        LoadableAnswer::NotLoadable => 0,
-        LoadableAnswer::Refused(number) => host_calls::REFUSED + number,
+        Ok(true) => 1,
+        Ok(false) => 0,
+        Err(refusal) => host_calls::refused(refusal),
     }
 }
 
@@ -60,8 +64,8 @@ fn loadable_in(stakes: &[u8], store: &[u8], reading: Reading, places: &mut [u64]
     let mut held = [0u64; committee::MAX_MEMBERS];
     let n = host_calls::stakes_of(stakes, &mut held);
     match load_list::loadable_in(&held[..n], store, reading, places) {
-        LoadableList::Places(count) => count,
-        LoadableList::Refused(number) => host_calls::REFUSED + number,
+        Ok(count) => count,
+        Err(refusal) => host_calls::refused(refusal),
     }
 }
 

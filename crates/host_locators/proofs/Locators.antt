@@ -2,7 +2,7 @@
 use mathlib.Core.Path.{◌≡◌, ap}
 use mathlib.Core.Bool.{Bool, true, false}
 use mathlib.Core.List.{List, [], ◌∷◌, ◌++◌}
-use mathlib.Core.Option.{Option, none, some}
+use mathlib.Core.Option.{none, some}
 use Prim.Native.Nat.{ℕ, ◌≤◌, ◌<◌}
 use native.Mathlib.Decide.{dec_lt}
 use native.Mathlib.Omega.{arith}
@@ -10,16 +10,15 @@ use lib.ListN.{length, drop, length-drop, drop_of_length-le}
 use borrow.Author.Tests.{le-leb}
 use Rattle.base.specs.Lists.{pick, is_empty, all_of}
 use Rattle.base.specs.Read.{complete}
-use Rattle.base.specs.Checks.{◌⇒◌, refusal, Answer, refused}
+use Rattle.base.specs.Checks.{◌⇒◌, refusal}
 use Rattle.base.proofs.Fixed.{reads_at, short_at}
 use Rattle.base.proofs.Lists.{is_empty_false}
 use Rattle.committee.specs.Committee.{Committee, broken}
-use Rattle.record_spec.specs.Reference.{TransactionLocator}
 use Rattle.record_spec.specs.Record.{read_locator}
 use Rattle.record_reference_bytes.specs.Step.{locator_at}
 use Rattle.record_reference_bytes.proofs.Fixed.{fixed_locator, locator_value}
 use Rattle.store_spec.specs.Store.{store_in_order}
-use Rattle.host_locators.specs.Locators.{locator_of, store_checks, refusal_before, asked}
+use Rattle.host_locators.specs.Locators.{locator_of, store_checks, refusal_before}
 use Rattle.host_calls.proofs.Numbers.{refusal_most}
 
 -- 56 bytes are a locator
@@ -56,12 +55,3 @@ module _ (n : ℕ) (c : Committee) (s : List ℕ) where
 pub before_most : (n : ℕ) (c : Committee) (s : List ℕ) → n ≤ 41 → refusal_before n c s ≤ 41
 unfolding refusal_before store_checks all_of
 before_most n c s h = refusal_most 41 (store_checks c s ++ ((true ⇒ n) ∷ [])) (rw (le-leb n 41 h))
-
--- a question whose own numbers are at most 41 has none above it
-pub asked_most : {A : Type 0} (c : Committee) (s : List ℕ) (question : TransactionLocator → Answer A) (o : Option TransactionLocator) (n : ℕ)
-    → ((l : TransactionLocator) (m : ℕ) → question l ≡ refused m → m ≤ 41) → asked c s question o ≡ refused n → n ≤ 41
-unfolding asked
-asked_most c s question none n f e =
-    let z : refusal_before 20 c s ≡ n = cc in
-    omega (arith, before_most 20 c s (omega arith))
-asked_most c s question (some l) n f e = f l n e

@@ -2,19 +2,20 @@
 #![tactic(auto)]
 
 ghost use Rattle.std.specs.Prelude.{◌≡◌};
+ghost use Rattle.base.specs.Refusals.{refusal_number};
 ghost use Rattle.host_locators.specs.Locators.{refusal_before};
 
-use committee::NewCommittee;
+use base::Refusal;
 
-// The number of a refusal that applies in any case: 5 and 10 come first.
-pub fn refusal_before(number: u64, stakes: &[u64], store: &[u8]) -> u64
-    ensures { result ≡ refusal_before number stakes.now store.now }
+// A refusal that applies in any case: 5 and 10 come first.
+pub fn refusal_before(refusal: Refusal, stakes: &[u64], store: &[u8]) -> Refusal
+    ensures { refusal_number result ≡ refusal_before (refusal_number refusal) stakes.now store.now }
 {
-    let NewCommittee::Taken(_) = committee::new_committee(stakes) else {
-        return 5;
+    let Ok(_) = committee::new_committee(stakes) else {
+        return Refusal::BrokenCommittee;
     };
     if !store_order::in_order(stakes, store) {
-        return 10;
+        return Refusal::StoreNotInOrder;
     }
-    number
+    refusal
 }

@@ -6,8 +6,6 @@ ghost use Rattle.std.specs.Prelude.{◌≡◌};
 ghost use Rattle.host_calls.specs.Calls.{encoded};
 ghost use Rattle.host_payload_bytes.specs.Payload.{payload_length_call, payload_start_call};
 
-use store_payload::{PayloadLength, PayloadPlace};
-
 // The length of a share's payload.
 pub fn payload_length(stakes: &[u8], store: &[u8], locator: &[u8]) -> u64
     ensures { result ≡ encoded (payload_length_call stakes.now store.now locator.now) }
@@ -15,8 +13,8 @@ pub fn payload_length(stakes: &[u8], store: &[u8], locator: &[u8]) -> u64
     let mut held = [0u64; committee::MAX_MEMBERS];
     let n = host_calls::stakes_of(stakes, &mut held);
     match host_payload_bytes::payload_length(&held[..n], store, locator) {
-        PayloadLength::Bytes(length) => length,
-        PayloadLength::Refused(number) => host_calls::REFUSED + number,
+        Ok(length) => length,
+        Err(refusal) => host_calls::refused(refusal),
     }
 }
 
@@ -27,7 +25,7 @@ pub fn payload_start(stakes: &[u8], store: &[u8], locator: &[u8]) -> u64
     let mut held = [0u64; committee::MAX_MEMBERS];
     let n = host_calls::stakes_of(stakes, &mut held);
     match host_payload_bytes::payload_place(&held[..n], store, locator) {
-        PayloadPlace::Stands(start, _) => start as u64,
-        PayloadPlace::Refused(number) => host_calls::REFUSED + number,
+        Ok((start, _)) => start as u64,
+        Err(refusal) => host_calls::refused(refusal),
     }
 }

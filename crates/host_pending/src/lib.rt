@@ -6,8 +6,6 @@ ghost use Rattle.std.specs.Prelude.{◌≡◌};
 ghost use Rattle.host_calls.specs.Calls.{encoded};
 ghost use Rattle.host_pending_bytes.specs.Pending.{pending_stake_call, pending_voters_call};
 
-use pending_question::PendingAnswer;
-
 // The stake of a pending locator.
 pub fn pending_stake(stakes: &[u8], store: &[u8], table: &[u8], locator: &[u8]) -> u64
     ensures { result ≡ encoded (pending_stake_call stakes.now store.now table.now locator.now) }
@@ -15,8 +13,8 @@ pub fn pending_stake(stakes: &[u8], store: &[u8], table: &[u8], locator: &[u8]) 
     let mut held = [0u64; committee::MAX_MEMBERS];
     let n = host_calls::stakes_of(stakes, &mut held);
     match host_pending_bytes::pending_of(&held[..n], store, table, locator) {
-        PendingAnswer::Standing(stake, _) => stake.0,
-        PendingAnswer::Refused(number) => host_calls::REFUSED + number,
+        Ok((stake, _)) => stake.0,
+        Err(refusal) => host_calls::refused(refusal),
     }
 }
 
@@ -27,7 +25,7 @@ pub fn pending_voters(stakes: &[u8], store: &[u8], table: &[u8], locator: &[u8])
     let mut held = [0u64; committee::MAX_MEMBERS];
     let n = host_calls::stakes_of(stakes, &mut held);
     match host_pending_bytes::pending_of(&held[..n], store, table, locator) {
-        PendingAnswer::Standing(_, voters) => voters,
-        PendingAnswer::Refused(number) => host_calls::REFUSED + number,
+        Ok((_, voters)) => voters,
+        Err(refusal) => host_calls::refused(refusal),
     }
 }

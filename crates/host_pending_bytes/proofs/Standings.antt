@@ -51,32 +51,6 @@ module _ (c : Committee) (s t : List ℕ) (o : Option TransactionLocator) where
   unfolding asked_pending
   pending_other h = rw (ne_eqb (length t) 49160 h)
 
--- the numbers of the question are at most 42
-question_most : (c : Committee) (s t : List ℕ) (l : TransactionLocator) (n : ℕ) → pending c s t l ≡ refused n → n ≤ 42
-unfolding pending pending_checks all_of standing_of standing_at
-question_most c s t l n e = go (passes (pending_checks c s t)) (item_at (items_of t) (position_of (lookup (entries (records_of s)) l.block)) l.offset) e
-  where
-    go : (b : Bool) (x : Option Item) → pick b (standing_of x) (refused (refusal (pending_checks c s t))) ≡ refused n → n ≤ 42
-    go true none e = let z : 42 ≡ n = cc in omega arith
-    go true (some x) e = let z : ◌≡◌ {A = ℕ} 0 1 = cc in absurd (omega arith)
-    go false x e = let z : refusal (pending_checks c s t) ≡ n = cc in omega (arith, refusal_most 42 (pending_checks c s t) refl)
-
-in_most : (c : Committee) (s t : List ℕ) (o : Option TransactionLocator) (n : ℕ) → pending_in c s t o ≡ refused n → n ≤ 42
-unfolding pending_in pending_checks all_of
-in_most c s t none n e = let z : refusal (pending_checks c s t ++ ((true ⇒ 20) ∷ [])) ≡ n = cc in omega
-    (arith, refusal_most 42 (pending_checks c s t ++ ((true ⇒ 20) ∷ [])) refl)
-in_most c s t (some l) n e = question_most c s t l n e
-
-pub pending_most : (c : Committee) (s t : List ℕ) (o : Option TransactionLocator) (n : ℕ) → asked_pending c s t o ≡ refused n → n ≤ 42
-pending_most c s t o n e = by (ℕ_discrete (length t) 49160)
-  where
-    by : Dec (length t ≡ 49160) → n ≤ 42
-    by (yes h) = in_most c s (words_in 6145 t) o n (sym (pending_sized c s t o h) ∙ e)
-    by (no h) =
-        let f : refused (refusal_before 11 c s) ≡ refused n = sym (pending_other c s t o h) ∙ e in
-        let z : refusal_before 11 c s ≡ n = cc in
-        omega (arith, before_most 11 c s (omega arith))
-
 -- ---- an answered stake is below 2^63, so that its word is taken for no refusal
 
 item_fits : (c : Committee) (s t : List ℕ) (x : Item) → refusal (pending_checks c s t) ≡ 0 → x ∈ items_of t → x.aggregator.stake < 9223372036854775808

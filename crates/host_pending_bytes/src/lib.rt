@@ -3,30 +3,36 @@
 
 ghost use Rattle.std.specs.Prelude.{◌≡◌, true, [], ◌∷◌, ◌++◌};
 ghost use Rattle.base.specs.Checks.{◌⇒◌, refusal};
+ghost use Rattle.base.specs.Refusals.{refusal_number};
 ghost use Rattle.pending_question.specs.Answers.{as_pending};
 ghost use Rattle.feed_spec.specs.Pending.{pending_checks};
 ghost use Rattle.host_pending_bytes.specs.Pending.{pending_in, asked_pending};
 ghost use Rattle.host_locators.specs.Locators.{locator_of};
 ghost use Rattle.host_pending_bytes.specs.Claims.{Claims};
 
-use pending_question::PendingAnswer;
+use base::Refusal;
+use committee::Stake;
 
 // 20 for bytes that are no locator, after 5, 10, 11.
-fn no_locator(stakes: &[u64], store: &[u8], table: &[u64]) -> u64
-    ensures { result ≡ refusal (pending_checks stakes.now store.now table.now ++ ((true ⇒ 20) ∷ [])) }
+fn no_locator(stakes: &[u64], store: &[u8], table: &[u64]) -> Refusal
+    ensures { refusal_number result ≡ refusal (pending_checks stakes.now store.now table.now ++ ((true ⇒ 20) ∷ [])) }
 {
-    let refusal = pending_question::lent_refusal(stakes, store, table);
-    if refusal != 0 {
+    if let Err(refusal) = pending_question::lent_refusal(stakes, store, table) {
         return refusal;
     }
-    20
+    Refusal::Malformed
 }
 
-fn pending_in(stakes: &[u64], store: &[u8], table: &[u64], locator: &[u8]) -> PendingAnswer
+fn pending_in(
+    stakes: &[u64],
+    store: &[u8],
+    table: &[u64],
+    locator: &[u8],
+) -> Result<(Stake, u64), Refusal>
     ensures { as_pending result ≡ pending_in stakes.now store.now table.now (locator_of locator.now) }
 {
     if locator.len() != types::LOCATOR_BYTES {
-        return PendingAnswer::Refused(no_locator(stakes, store, table));
+        return Err(no_locator(stakes, store, table));
     }
     pending_question::pending(
         stakes,
@@ -36,11 +42,16 @@ fn pending_in(stakes: &[u64], store: &[u8], table: &[u64], locator: &[u8]) -> Pe
     )
 }
 
-pub fn pending_of(stakes: &[u64], store: &[u8], table: &[u8], locator: &[u8]) -> PendingAnswer
+pub fn pending_of(
+    stakes: &[u64],
+    store: &[u8],
+    table: &[u8],
+    locator: &[u8],
+) -> Result<(Stake, u64), Refusal>
     ensures { as_pending result ≡ asked_pending stakes.now store.now table.now (locator_of locator.now) }
 {
     if table.len() != host_calls::TABLE_BYTES {
-        return PendingAnswer::Refused(host_locators::refusal_before(11, stakes, store));
+        return Err(host_locators::refusal_before(Refusal::TableNotInOrder, stakes, store));
     }
     let mut words = [0u64; host_calls::TABLE_WORDS];
     words::words_of(table, &mut words);

@@ -8,7 +8,6 @@ ghost use Rattle.draft_size.specs.Asked.{requested};
 ghost use Rattle.host_calls.specs.Calls.{encoded};
 
 use committee::{AuthorityIndex, RoundNumber};
-use draft_writer::WriteAnswer;
 
 pub fn write_record_of(
     author: u64,
@@ -31,8 +30,8 @@ pub fn write_record_of(
         statements,
         out,
     ) {
-        WriteAnswer::Written(length) => length as u64,
-        WriteAnswer::Refused(number) => host_calls::REFUSED + number, // no byte is written
+        Ok(length) => length as u64,
+        Err(refusal) => host_calls::refused(refusal), // no byte is written
     }
 }
 
@@ -59,7 +58,7 @@ pub fn write_timed_record_of(
         statements,
         out,
     ) {
-        WriteAnswer::Written(length) => length as u64,
-        WriteAnswer::Refused(number) => host_calls::REFUSED + number,
+        Ok(length) => length as u64,
+        Err(refusal) => host_calls::refused(refusal),
     }
 }

@@ -1,35 +1,28 @@
 -- The answers of the host's call, by cases. Assumes nothing.
-use mathlib.Core.Path.{◌≡◌, refl, sym, ◌∙◌}
+use mathlib.Core.Path.{◌≡◌, refl}
 use mathlib.Core.Bool.{Bool, true, false}
 use mathlib.Core.List.{List, [], ◌∷◌, ◌++◌}
 use mathlib.Core.Option.{Option, none, some}
-use Prim.Native.Nat.{ℕ, ◌≤◌}
-use native.Mathlib.Decide.{ℕ_discrete}
+use Prim.Native.Nat.{ℕ}
 use native.Mathlib.Omega.{arith}
 use lib.Dec.{eqb}
 use lib.ListN.{length}
 use borrow.Author.Tests.{eq-eqb, ne_eqb, eqb-true}
-use Rattle.base.specs.Lists.{pick, all_of}
+use Rattle.base.specs.Lists.{pick}
 use Rattle.base.specs.Le.{Bytes}
-use Rattle.base.specs.Checks.{Check, ◌⇒◌, refusal, passes, Answer, refused, answered}
+use Rattle.base.specs.Checks.{Check, ◌⇒◌, refusal, Answer, refused, answered}
 use Rattle.base.proofs.Refusals.{refusal_first, refusal_then}
 use Rattle.committee.specs.Committee.{Committee, broken}
 use Rattle.committee_set.specs.AuthoritySet.{AuthoritySet}
-use Rattle.ring_owners.specs.Ranked.{Ring, ring_checks, ring}
+use Rattle.ring_owners.specs.Ranked.{Ring, ring}
 use Rattle.record_spec.specs.Reference.{TransactionLocator}
-use Rattle.pending_spec.specs.Items.{Item, item_at}
-use Rattle.pending_spec.specs.Table.{items_of}
-use Rattle.store_spec.specs.Layout.{entries, position_of, lookup}
-use Rattle.store_spec.specs.Store.{records_of}
 use Rattle.words.specs.Words.{words_in, words_of}
 use Rattle.feed_spec.specs.Pending.{pending_checks}
 use Rattle.feed_spec.proofs.Checks.{pending_numbered}
-use Rattle.ring_pending.specs.WhomToRing.{ring_for, ring_at, whom_to_ring}
+use Rattle.ring_pending.specs.WhomToRing.{ring_at, whom_to_ring}
 use Rattle.ring_pending.proofs.Asked.{asked_refused, asked_at}
 use Rattle.host_calls.specs.Calls.{committee_of}
-use Rattle.host_calls.proofs.Numbers.{refusal_most, checked_most}
 use Rattle.host_locators.specs.Locators.{locator_of, refusal_before}
-use Rattle.host_locators.proofs.Locators.{before_most}
 use Rattle.host_ring.specs.Ring.{ring_in, asked_ring, ring_told, whom_to_ring_call, fewest_in, fewest_owners_call}
 use Rattle.host_ring.specs.Step.{Tellable}
 
@@ -67,50 +60,6 @@ module _ (c : Committee) (s t : List ℕ) (r : AuthoritySet) (o : Option Transac
   unfolding asked_ring
   ring_other h = rw (ne_eqb (length t) 49160 h)
 
--- the numbers of the call are at most 60
-owners_most : (c : Committee) (v r : AuthoritySet) (k : ℕ) → ring c v r ≡ refused k → k ≤ 60
-unfolding ring ring_checks all_of
-owners_most c v r k e = checked_most 60 (ring_checks c v r) _ k refl e
-
-whom_most : (c : Committee) (s t : List ℕ) (r : AuthoritySet) (l : TransactionLocator) (k : ℕ) → whom_to_ring c s t r l ≡ refused k → k ≤ 60
-unfolding whom_to_ring ring_at ring_for
-whom_most c s t r l k e = go (passes (pending_checks c s t)) (item_at (items_of t) (position_of (lookup (entries (records_of s)) l.block)) l.offset) e
-  where
-    most : refusal (pending_checks c s t) ≤ 60
-    most = unfold pending_checks all_of in refusal_most 60 (pending_checks c s t) refl
-
-    go : (b : Bool) (o : Option Item) → pick b (ring_for c r o) (refused (refusal (pending_checks c s t))) ≡ refused k → k ≤ 60
-    go true none e = let z : 42 ≡ k = cc in omega arith
-    go true (some x) e = owners_most c x.aggregator.votes r k e
-    go false o e = let z : refusal (pending_checks c s t) ≡ k = cc in omega (arith, most)
-
-in_most : (c : Committee) (s t : List ℕ) (r : AuthoritySet) (o : Option TransactionLocator) (n k : ℕ) → ring_in c s t r o n ≡ refused k → k ≤ 60
-unfolding ring_in
-in_most c s t r none n k e =
-    let most : refusal (pending_checks c s t ++ ((true ⇒ 20) ∷ [])) ≤ 60 = unfold pending_checks all_of in refusal_most 60
-    (pending_checks c s t ++ ((true ⇒ 20) ∷ [])) refl in
-    let z : refusal (pending_checks c s t ++ ((true ⇒ 20) ∷ [])) ≡ k = cc in
-    omega arith
-in_most c s t r (some l) n k e = go (eqb n 24) e
-  where
-    most : refusal (pending_checks c s t ++ ((true ⇒ 40) ∷ [])) ≤ 60
-    most = unfold pending_checks all_of in refusal_most 60 (pending_checks c s t ++ ((true ⇒ 40) ∷ [])) refl
-
-    go : (b : Bool) → pick b (whom_to_ring c s t r l) (refused (refusal (pending_checks c s t ++ ((true ⇒ 40) ∷ [])))) ≡ refused k → k ≤ 60
-    go true e = whom_most c s t r l k e
-    go false e = let z : refusal (pending_checks c s t ++ ((true ⇒ 40) ∷ [])) ≡ k = cc in omega (arith, most)
-
-module _ (c : Committee) (s t : List ℕ) (r : AuthoritySet) (o : Option TransactionLocator) (n : ℕ) where
-  ring_most : (k : ℕ) → asked_ring c s t r o n ≡ refused k → k ≤ 60
-  ring_most k e = by (ℕ_discrete (length t) 49160)
-    where
-      by : Dec (length t ≡ 49160) → k ≤ 60
-      by (yes h) = in_most c s (words_in 6145 t) r o n k (sym (ring_sized c s t r o n h) ∙ e)
-      by (no h) =
-          let f : refused (refusal_before 11 c s) ≡ refused k = sym (ring_other c s t r o n h) ∙ e in
-          let z : refusal_before 11 c s ≡ k = cc in
-          omega (arith, before_most 11 c s (omega arith))
-
 -- an answer is given only where there is room for it
 in_room : (c : Committee) (s t : List ℕ) (r : AuthoritySet) (o : Option TransactionLocator) (n : ℕ) (g : Ring) → ring_in c s t r o n ≡ answered g → n ≡ 24
 unfolding ring_in
@@ -130,7 +79,7 @@ ring_room c s t r o n g e = go (eqb (length t) 49160) e
     go false e = let z : ◌≡◌ {A = ℕ} 0 1 = cc in absurd (omega arith)
 
 pub ring_tellable : (c : Committee) (s t : List ℕ) (r : AuthoritySet) (o : Option TransactionLocator) (n : ℕ) → Tellable (asked_ring c s t r o n) n
-ring_tellable c s t r o n = record { most = ring_most c s t r o n; room = ring_room c s t r o n }
+ring_tellable c s t r o n = record { room = ring_room c s t r o n }
 
 -- the call, by the answer to the stakes that it holds
 pub call_told : (stakes s t : Bytes) (low high : ℕ) (b f : Bytes) (c : Committee) (a : Answer Ring) → c ≡ committee_of stakes
@@ -156,16 +105,9 @@ module _ (c : Committee) (v r : AuthoritySet) (n : ℕ) where
       small : List Check
       small = (broken c ⇒ 5) ∷ (true ⇒ 40) ∷ []
 
-      few : refusal small ≤ 60
-      few = unfold all_of in refusal_most 60 small refl
-
       go : (b : Bool) → eqb n 24 ≡ b → Tellable (pick b (ring c v r) (refused (refusal small))) n
-      go true h = record { most = owners_most c v r; room = λ g e. eqb-true n 24 h }
-      go false h =
-          record {
-            most = λ k e. let z : refusal small ≡ k = cc in omega (arith, few);
-            room = λ g e. let z : ◌≡◌ {A = ℕ} 0 1 = cc in absurd (omega arith);
-          }
+      go true h = record { room = λ g e. eqb-true n 24 h }
+      go false h = record { room = λ g e. let z : ◌≡◌ {A = ℕ} 0 1 = cc in absurd (omega arith) }
 
 pub fewest_told : (stakes : Bytes) (vl vh rl rh : ℕ) (f : Bytes) (c : Committee) (a : Answer Ring) → c ≡ committee_of stakes
     → a ≡ fewest_in c (record { low = vl; high = vh }) (record { low = rl; high = rh }) (length f) → fewest_owners_call stakes vl vh rl rh f ≡ ring_told a f

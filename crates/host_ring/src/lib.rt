@@ -3,6 +3,7 @@
 
 ghost use Rattle.std.specs.Prelude.{◌≡◌, true, [], ◌∷◌, length};
 ghost use Rattle.base.specs.Checks.{◌⇒◌, refusal};
+ghost use Rattle.base.specs.Refusals.{refusal_number};
 ghost use Rattle.committee.specs.Committee.{broken};
 ghost use Rattle.ring_fewest.specs.Answers.{as_ring};
 ghost use Rattle.host_calls.specs.Calls.{encoded};
@@ -10,10 +11,10 @@ ghost use Rattle.host_locators.specs.Locators.{locator_of};
 ghost use Rattle.host_ring.specs.Ring.{ring_in, asked_ring, ring_told, whom_to_ring_call, fewest_in, fewest_owners_call};
 ghost use Rattle.host_ring.specs.Step.{Tellable};
 
-use committee::NewCommittee;
+use base::Refusal;
+use committee::Stake;
 use committee_aggregator::StakeAggregator;
 use committee_set::AuthoritySet;
-use ring_fewest::RingAnswer;
 
 // 5, 10, 11, then 20 for bytes that are no locator, 40 for no room of three words, then whom to ring.
 fn ring_in(
@@ -23,18 +24,15 @@ fn ring_in(
     reachable: AuthoritySet,
     locator: &[u8],
     room: usize,
-) -> RingAnswer
+) -> Result<(AuthoritySet, Stake), Refusal>
     ensures { as_ring result ≡ ring_in stakes.now store.now table.now reachable (locator_of locator.now) room }
 {
-    let refusal = pending_question::lent_refusal(stakes, store, table);
-    if refusal != 0 {
-        return RingAnswer::Refused(refusal);
-    }
+    pending_question::lent_refusal(stakes, store, table)?;
     if locator.len() != types::LOCATOR_BYTES {
-        return RingAnswer::Refused(20);
+        return Err(Refusal::Malformed);
     }
     if room != 24 {
-        return RingAnswer::Refused(40);
+        return Err(Refusal::AnswerSlice);
     }
     ring_pending::ring_at(
         stakes,
@@ -52,11 +50,11 @@ fn ring_of(
     reachable: AuthoritySet,
     locator: &[u8],
     room: usize,
-) -> RingAnswer
+) -> Result<(AuthoritySet, Stake), Refusal>
     ensures { as_ring result ≡ asked_ring stakes.now store.now table.now reachable (locator_of locator.now) room }
 {
     if table.len() != host_calls::TABLE_BYTES {
-        return RingAnswer::Refused(host_locators::refusal_before(11, stakes, store));
+        return Err(host_locators::refusal_before(Refusal::TableNotInOrder, stakes, store));
     }
     let mut words = [0u64; host_calls::TABLE_WORDS];
     words::words_of(table, &mut words);
@@ -84,12 +82,12 @@ pub fn whom_to_ring(
 }
 
 // Tells whom to ring: their number, and in `found` the two words of their set and their stake.
-fn tell(answer: RingAnswer, found: &mut [u8]) -> u64
+fn tell(answer: Result<(AuthoritySet, Stake), Refusal>, found: &mut [u8]) -> u64
     requires { Tellable (as_ring answer) (length found.old) }
     ensures { (result ≡ encoded (ring_told (as_ring answer) found.old).answer) × (found.new ≡ (ring_told (as_ring answer) found.old).found) }
 {
     match answer {
-        RingAnswer::Owners(owners, stake) => {
+        Ok((owners, stake)) => {
             host_add::write_aggregator(
                 found,
                 StakeAggregator {
@@ -99,18 +97,18 @@ fn tell(answer: RingAnswer, found: &mut [u8]) -> u64
             );
             owners.count()
         }
-        RingAnswer::Refused(number) => host_calls::REFUSED + number,
+        Err(refusal) => host_calls::refused(refusal),
     }
 }
 
 // 5, or 40 for no room of three words.
-fn no_room(stakes: &[u64]) -> u64
-    ensures { result ≡ refusal ((broken stakes.now ⇒ 5) ∷ (true ⇒ 40) ∷ []) }
+fn no_room(stakes: &[u64]) -> Refusal
+    ensures { refusal_number result ≡ refusal ((broken stakes.now ⇒ 5) ∷ (true ⇒ 40) ∷ []) }
 {
-    let NewCommittee::Taken(_) = committee::new_committee(stakes) else {
-        return 5;
+    let Ok(_) = committee::new_committee(stakes) else {
+        return Refusal::BrokenCommittee;
     };
-    40
+    Refusal::AnswerSlice
 }
 
 fn fewest_of(
@@ -118,11 +116,11 @@ fn fewest_of(
     voters: AuthoritySet,
     reachable: AuthoritySet,
     room: usize,
-) -> RingAnswer
+) -> Result<(AuthoritySet, Stake), Refusal>
     ensures { as_ring result ≡ fewest_in stakes.now voters reachable room }
 {
     if room != 24 {
-        return RingAnswer::Refused(no_room(stakes));
+        return Err(no_room(stakes));
     }
     ring_fewest::fewest_owners(stakes, voters, reachable)
 }

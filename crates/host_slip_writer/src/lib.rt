@@ -8,8 +8,8 @@ ghost use Rattle.host_calls.specs.Calls.{encoded};
 ghost use Rattle.host_locators.specs.Locators.{locator_of};
 ghost use Rattle.host_slip_writer.specs.WriteSlip.{asked_slip, write_slip_call};
 
+use base::Refusal;
 use final_readings_spec::Reading;
-use slip_write_bytes::SlipAnswer;
 
 // 20 for bytes that are no locator, after 5 and 10.
 fn write_slip_of(
@@ -18,12 +18,12 @@ fn write_slip_of(
     locator: &[u8],
     reading: Reading,
     out: &mut [u8],
-) -> SlipAnswer
+) -> Result<usize, Refusal>
     ensures result_value { as_slip_answer result ≡ (asked_slip (as_reading reading) stakes.now store.now (locator_of locator.now) out.old).answer }
     ensures out_after { out.new ≡ (asked_slip (as_reading reading) stakes.now store.now (locator_of locator.now) out.old).out }
 {
     if locator.len() != types::LOCATOR_BYTES {
-        return SlipAnswer::Refused(host_locators::refusal_before(20, stakes, store));
+        return Err(host_locators::refusal_before(Refusal::Malformed, stakes, store));
     }
     slip_write_call::write_slip_in(
         stakes,
@@ -48,7 +48,7 @@ pub fn write_slip(
     let mut held = [0u64; committee::MAX_MEMBERS];
     let n = host_calls::stakes_of(stakes, &mut held);
     match write_slip_of(&held[..n], store, locator, reading, out) {
-        SlipAnswer::Written(length) => length as u64,
-        SlipAnswer::Refused(number) => host_calls::REFUSED + number,
+        Ok(length) => length as u64,
+        Err(refusal) => host_calls::refused(refusal),
     }
 }

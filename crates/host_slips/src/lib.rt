@@ -5,8 +5,6 @@ ghost use Rattle.std.specs.Prelude.{◌≡◌};
 ghost use Rattle.host_calls.specs.Calls.{encoded, committee_of};
 ghost use Rattle.slip_spec.specs.Reading.{read_answer};
 
-use slip_read_call::SlipAnswer;
-
 // The number of certifying blocks of a slip that is accepted with its records.
 pub fn read_slip(stakes: &[u8], slip: &[u8], records: &[u8]) -> u64
     ensures { result ≡ encoded (read_answer (committee_of stakes.now) slip.now records.now) }
@@ -14,7 +12,7 @@ pub fn read_slip(stakes: &[u8], slip: &[u8], records: &[u8]) -> u64
     let mut held = [0u64; committee::MAX_MEMBERS];
     let n = host_calls::stakes_of(stakes, &mut held);
     match slip_read_call::read_slip(&held[..n], slip, records) {
-        SlipAnswer::Accepted(count) => count,
-        SlipAnswer::Refused(number) => host_calls::REFUSED + number,
+        Ok(count) => count,
+        Err(refusal) => host_calls::refused(refusal),
     }
 }

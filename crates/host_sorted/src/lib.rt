@@ -5,8 +5,6 @@ ghost use Rattle.std.specs.Prelude.{◌≡◌};
 ghost use Rattle.sorted_spec.specs.Sorted.{answer_sorted};
 ghost use Rattle.host_calls.specs.Calls.{encoded, committee_of};
 
-use sorted_question::SortedAnswer;
-
 // The number of locators; their replies stand in front of `replies`.
 pub fn answer_sorted_of(
     stakes: &[u8],
@@ -21,7 +19,7 @@ pub fn answer_sorted_of(
     let mut held = [0u64; committee::MAX_MEMBERS];
     let n = host_calls::stakes_of(stakes, &mut held);
     match sorted_question::answer_sorted(&held[..n], store, index, locators, replies) {
-        SortedAnswer::Replies(count) => count,
-        SortedAnswer::Refused(number) => host_calls::REFUSED + number,
+        Ok(count) => count,
+        Err(refusal) => host_calls::refused(refusal),
     }
 }

@@ -13,10 +13,11 @@ use Rattle.words.specs.Words.{bytes_of}
 use Rattle.words.proofs.Words.{length_bytes_of}
 use Rattle.stakes_file.specs.Load.{load, loaded_into}
 use Rattle.stakes_file.specs.Answers.{as_load, stakes_in, members_at_most}
-use Rattle.stakes_file.specs.declared.LoadAnswer.{LoadAnswer}
-use Rattle.stakes_file.specs.declared.LoadAnswer.TheVariants.{Members, Refused}
-use Rattle.stakes_file.proofs.Front.{loaded_front, members_fit, load_most}
+use Rattle.stakes_file.proofs.Front.{loaded_front, members_fit}
 use Rattle.host_stakes.specs.LoadStakes.{loaded_bytes}
+use Rattle.std.specs.Prelude.{Err, Ok, Result}
+use Rattle.base.specs.declared.refusal.Refusal.{Refusal}
+use Rattle.base.specs.Refusals.{refusal_number}
 
 module _ (c : List ℕ) (b : Bytes) where
   pub put_other : (length b ≡ 1024 → ⊥) → loaded_bytes (answered c) b ≡ record { answer = refused 40; stakes = b }
@@ -29,15 +30,15 @@ module _ (c : List ℕ) (b : Bytes) where
   put_front h l = let n = length_bytes_of c in rw (eq-eqb (length b) 1024 h, sets-eq (bytes_of c) b 0 (omega arith), n, zero-add)
 
 -- loading into 128 words of the call's own
-module _ (f : Bytes) (out : List ℕ) (r : LoadAnswer) (h : as_load r ≡ (loaded_into (load f) (replicate 128 0)).answer)
+module _ (f : Bytes) (out : List ℕ) (r : Result ℕ Refusal) (h : as_load r ≡ (loaded_into (load f) (replicate 128 0)).answer)
     (e : out ≡ (loaded_into (load f) (replicate 128 0)).stakes) where
   told : members_at_most 128 r × (stakes_in r out ≡ load f)
   told = loaded_front (replicate 128 0) out r (omega arith) f h e
 
-  pub held_members : (n : ℕ) → r ≡ Members n → (n ≤ 128) × (load f ≡ answered (take n out))
+  pub held_members : (n : ℕ) → r ≡ Ok n → (n ≤ 128) × (load f ≡ answered (take n out))
   unfolding stakes_in
   held_members n q = (members_fit 128 n r q told.0, sym (rw q at told.1))
 
-  pub held_refused : (n : ℕ) → r ≡ Refused n → (n ≤ 57) × (load f ≡ refused n)
+  pub held_refused : (n : Refusal) → r ≡ Err n → load f ≡ refused (refusal_number n)
   unfolding stakes_in
-  held_refused n q = let z : load f ≡ refused n = sym (rw q at told.1) in (load_most f n z, z)
+  held_refused n q = sym (rw q at told.1)

@@ -1,25 +1,23 @@
 -- The time of a stored block, as a host asks for it. Assumes nothing.
-use mathlib.Core.Path.{◌≡◌, refl, ap}
+use mathlib.Core.Path.{◌≡◌, ap}
 use mathlib.Core.Bool.{Bool}
 use mathlib.Core.List.{List}
 use mathlib.Core.Option.{Option, none, some}
-use Prim.Native.Nat.{ℕ, ◌≤◌, ◌<◌}
+use Prim.Native.Nat.{ℕ, ◌<◌}
 use native.Mathlib.Decide.{dec_lt}
 use native.Mathlib.Omega.{arith}
 use lib.ListN.{length, drop, length-drop, drop_of_length-le}
 use borrow.Author.Tests.{eq-eqb, ne_eqb}
-use Rattle.base.specs.Lists.{pick, is_empty, all_of}
+use Rattle.base.specs.Lists.{pick, is_empty}
 use Rattle.base.specs.Read.{complete}
 use Rattle.base.specs.Checks.{Answer, refused}
 use Rattle.base.proofs.Fixed.{reads_at, short_at}
 use Rattle.base.proofs.Lists.{is_empty_false}
 use Rattle.committee.specs.Committee.{Committee}
-use Rattle.record_spec.specs.Reference.{BlockReference}
 use Rattle.record_spec.specs.Record.{read_reference}
 use Rattle.record_reference_bytes.specs.Step.{reference_at}
 use Rattle.record_reference_bytes.proofs.Fixed.{fixed_reference, reference_value}
-use Rattle.store_time.specs.Times.{time_checks, ask_time}
-use Rattle.host_calls.proofs.Numbers.{checked_most}
+use Rattle.store_time.specs.Times.{ask_time}
 use Rattle.host_locators.specs.Locators.{refusal_before}
 use Rattle.host_times.specs.Times.{reference_of, found_in, asked_time}
 
@@ -37,10 +35,6 @@ reference_none b h = by (dec_lt (length b) 48)
     by (yes k) = rw (short_at read_reference 48 fixed_reference b 0 (omega arith))
     by (no k) = rw (reads_at read_reference 48 fixed_reference b 0 (omega arith))
         (ap (λ (t : Bool). pick t (some (fixed_reference.value b)) none) (is_empty_false (drop 48 b) (omega (arith, length-drop 48 b))))
-
-pub time_most : (c : Committee) (s : List ℕ) (r : BlockReference) (n : ℕ) → ask_time c s r ≡ refused n → n ≤ 10
-unfolding ask_time time_checks all_of
-time_most c s r n e = checked_most 10 (time_checks c s) _ n refl e
 
 module _ (c : Committee) (s b out : List ℕ) where
   pub time_malformed : (length b ≡ 48 → ⊥) → asked_time c s (reference_of b) out ≡ record { answer = refused (refusal_before 20 c s); found = out }

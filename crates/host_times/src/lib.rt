@@ -5,28 +5,30 @@ ghost use Rattle.std.specs.Prelude.{◌≡◌};
 ghost use Rattle.host_calls.specs.Calls.{encoded};
 ghost use Rattle.host_times.specs.Times.{reference_of, asked_time, creation_time_call};
 
-use store_time::TimeAnswer;
+use base::Refusal;
 
 fn time_of(stakes: &[u64], store: &[u8], reference: &[u8], found: &mut [u8]) -> u64
     ensures { (result ≡ encoded (asked_time stakes.now store.now (reference_of reference.now) found.old).answer) × (found.new ≡ (asked_time stakes.now store.now (reference_of reference.now) found.old).found) }
 {
     if reference.len() != types::REFERENCE_BYTES {
-        return host_calls::REFUSED + host_locators::refusal_before(20, stakes, store);
+        let refusal = host_locators::refusal_before(Refusal::Malformed, stakes, store);
+        return host_calls::refused(refusal);
     }
     if found.len() != 8 {
-        return host_calls::REFUSED + host_locators::refusal_before(40, stakes, store);
+        let refusal = host_locators::refusal_before(Refusal::AnswerSlice, stakes, store);
+        return host_calls::refused(refusal);
     }
     match store_time::creation_time(
         stakes,
         store,
         record_reference_bytes::read_reference(reference, 0),
     ) {
-        TimeAnswer::Found(time) => {
+        Ok(Some(time)) => {
             base::write_u64(found, 0, time);
             1
         }
-        TimeAnswer::NoTime => 0,
-        TimeAnswer::Refused(number) => host_calls::REFUSED + number,
+        Ok(None) => 0,
+        Err(refusal) => host_calls::refused(refusal),
     }
 }
 

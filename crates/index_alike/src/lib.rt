@@ -11,12 +11,10 @@ fn same_run(index: &[u64], a: usize, b: usize) -> bool
     requires { (a + 10 ≤ length index.now) × (b + 10 ≤ length index.now) }
     ensures { result ≡ true → run_from (drop a index.now) ≡ run_from (drop b index.now) }
 {
-    let mut i: usize = 0;
-    while i < 10 {
+    for i in 0..10 {
         if index[a + i] != index[b + i] {
             return false;
         }
-        i += 1;
     }
     true
 }
@@ -40,13 +38,11 @@ pub fn all_have(index: &[u64], cursors: &[u64], n: usize, k: usize, pos: usize) 
     requires { Ready index.now cursors.now n × (pos + 10 ≤ length index.now) }
     ensures { result ≡ true → AllHave index.now cursors.now n pos k }
 {
-    let mut j: usize = 0;
-    while j < n {
+    for j in 0..n {
         let at = cursors[2 * j] as usize;
         if !has_run(index, at, cursors[2 * j + 1] as usize, k, pos) {
             return false;
         }
-        j += 1;
     }
     true
 }
@@ -56,12 +52,10 @@ pub fn shared_runs(index: &[u64], cursors: &[u64], n: usize, pos: usize, most: u
     requires { Ready index.now cursors.now n × (pos + 10 * most ≤ length index.now) }
     ensures { (result ≤ most) × Shared index.now cursors.now n pos result }
 {
-    let mut k: usize = 0;
-    while k < most {
+    for k in 0..most {
         if !all_have(index, cursors, n, k, pos + index_runs::RUN_WORDS * k) {
             return k;
         }
-        k += 1;
     }
     most
 }

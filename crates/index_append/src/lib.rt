@@ -8,7 +8,7 @@ ghost use Rattle.index_spec.specs.Part.{RunsOf};
 ghost use Rattle.index_spec.specs.Index.{part_words};
 ghost use Rattle.index_pieces.specs.Sources.{Ready, together};
 
-use index_runs::{MaybeRun, Place};
+use index_runs::Place;
 
 // Appends that part, of so many runs, after the used words, and counts them as used. The sources in the index lie in the used words.
 pub fn append_part(
@@ -28,7 +28,7 @@ pub fn append_part(
     let mut next = index_merge::next_piece(&index[..used], cursors, n, own, mine, Place::Anywhere);
     let mut k: usize = 0;
     while k < count {
-        let MaybeRun::Here(x) = next else {
+        let Some(x) = next else {
             // Never so: there are so many runs.
             return;
         };

@@ -21,11 +21,10 @@ use Rattle.index_spec.specs.Part.{part_from, part_in}
 use Rattle.index_spec.specs.Index.{index_agrees}
 use Rattle.index_own_runs.specs.Own.{Voting}
 use Rattle.index_parts.specs.Parts.{Compared}
-use Rattle.index_parts.specs.declared.PartEnd.{PartEnd}
-use Rattle.index_parts.specs.declared.PartEnd.TheVariants.{Ends, Differs}
 use Rattle.index_check.specs.Known.{Known, Rooted}
 use Rattle.index_check.proofs.Arriving.{older_at, arrival, arrived_entry, arrived_block, arrived_voting, arrived_rooted, arrived_stored}
 use Rattle.index_check.proofs.Agreeing.{Agreeing, agreeing_differs, agreeing_on}
+use Rattle.std.specs.Prelude.{None, Some, Option}
 
 module _ (c : Committee) (s : Bytes) (order ix starts₀ : List ℕ) (o : Sorted c s order) (bytes : AllBytes s) (starts : List ℕ) (at pos i : ℕ)
     (g : Agreeing s order ix starts₀ starts at pos i) (m : i < length order) where
@@ -59,19 +58,19 @@ module _ (c : Committee) (s : Bytes) (order ix starts₀ : List ℕ) (o : Sorted
     pub next_rooted : Rooted s older (block_in rec)
     next_rooted = subst (Rooted s older) (sym block_is) (arrived_rooted c s order o bytes i in_store)
 
-    module _ (r : PartEnd)
+    module _ (r : Option ℕ)
         (held : (bs : List Block) → Known s order ix starts bs → Rooted s bs (block_in rec)
         → Compared ix pos (part_from (block_in rec) (map (part_in bs) (block_in rec).includes)) r) where
       compared : Compared ix pos (part_from b (map (part_in older) b.includes)) r
       compared = subst (λ (d : Block). Compared ix pos (part_from d (map (part_in older) d.includes)) r) block_is (held older g.known next_rooted)
 
-      pub next_differs : r ≡ Differs → index_agrees (blocks_of s) ix ≡ false
+      pub next_differs : r ≡ None → index_agrees (blocks_of s) ix ≡ false
       unfolding Compared
       next_differs d = agreeing_differs c s order ix starts₀ o bytes starts at pos i g in_store
           (subst (Compared ix pos (part_from b (map (part_in older) b.includes))) d compared)
 
       -- its part stands there, and where it begins is noted at the block's place
-      pub next_on : (end : ℕ) → r ≡ Ends end → (k : ℕ) → k < length order → (block_at_place s order k).reference ≡ (block_at s at).reference
+      pub next_on : (end : ℕ) → r ≡ Some end → (k : ℕ) → k < length order → (block_at_place s order k).reference ≡ (block_at s at).reference
           → (next : ℕ) → next ≡ at + 8 + le_at 4 s (at + 4) → Agreeing s order ix starts₀ (set starts k pos) next end (i + 1)
       unfolding Compared
       next_on end d k n p next q =

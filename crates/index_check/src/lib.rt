@@ -12,8 +12,6 @@ ghost use Rattle.index_own_runs.specs.Own.{Voting};
 ghost use Rattle.index_parts.specs.Parts.{Compared};
 ghost use Rattle.index_check.specs.Known.{Known, Rooted, Opened};
 
-use index_parts::PartEnd;
-
 // Puts a cursor before the part of each include of a record, and answers how many.
 pub fn open_sources(
     store: &[u8],
@@ -30,18 +28,17 @@ pub fn open_sources(
     ensures { (bs : List Block) → Known store.now order.now index.now starts.now bs → Rooted store.now bs (block_in rec.now) → Opened bs (block_in rec.now) index.now cursors.new result }
 {
     let count = record_reader::include_count(rec);
-    let mut j: usize = 0;
-    while j < count {
+    for j in 0..count {
         let place = final_block_votes::place_of(store, order, record_reader::include(rec, j));
         let start = starts[place] as usize;
         cursors[2 * j] = (start + 1) as u64;
         cursors[2 * j + 1] = index[start];
-        j = j + 1;
     }
     count
 }
 
-// Holds the words from a position on against the part of a record, whose own votes are written to the lent words.
+// Holds the words from a position on against the part of a record, whose own votes are written to the lent words, and answers where the part ends;
+// none if they are not those of the part.
 fn record_part_end(
     store: &[u8],
     order: &[u64],
@@ -51,7 +48,7 @@ fn record_part_end(
     at: usize,
     rows: &mut [u64],
     own: &mut [u64],
-) -> PartEnd
+) -> Option<usize>
     requires store { SortedStore store.now order.now }
     requires record { Voting rec.now }
     requires known { (bs : List Block) × (Known store.now order.now index.now starts.now bs × Rooted store.now bs (block_in rec.now)) }
@@ -85,8 +82,7 @@ fn parts_agree(
     }
     let mut at: usize = 16;
     let mut pos: usize = 1;
-    let mut i: usize = 0;
-    while i < order.len() {
+    for i in 0..order.len() {
         let from = at + 8;
         let end = store_entries::record_end(store, at);
         let ended = record_part_end(
@@ -99,7 +95,7 @@ fn parts_agree(
             rows,
             own,
         );
-        let PartEnd::Ends(next) = ended else {
+        let Some(next) = ended else {
             return false;
         };
         let place = final_block_votes::place_of(
@@ -110,7 +106,6 @@ fn parts_agree(
         starts[place] = pos as u64;
         pos = next;
         at = end;
-        i = i + 1;
     }
     index[0] == pos as u64
 }

@@ -12,12 +12,10 @@ pub fn leader(cursors: &[u64], n: usize) -> usize
     requires { 2 * n ≤ length cursors.now }
     ensures { result < n → Leads cursors.now result }
 {
-    let mut j: usize = 0;
-    while j < n {
+    for j in 0..n {
         if cursors[2 * j + 1] != 0 {
             return j;
         }
-        j += 1;
     }
     n
 }
@@ -48,13 +46,11 @@ pub fn move_on(cursors: &mut [u64], n: usize, k: usize)
     requires { Movable cursors.old n k }
     ensures { MovedBy cursors.old n k cursors.new }
 {
-    let mut j: usize = 0;
-    while j < n {
+    for j in 0..n {
         let at = cursors[2 * j];
         let left = cursors[2 * j + 1];
         cursors[2 * j] = moved_at(at, left, k);
         cursors[2 * j + 1] = moved_left(left, k);
-        j += 1;
     }
 }
 

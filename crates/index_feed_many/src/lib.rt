@@ -10,8 +10,8 @@ ghost use Rattle.index_feed_many.specs.Records.{feed_all_indexed, feed_records_i
 ghost use Rattle.index_feed_many.specs.Step.{ReadyIndexed, FedNextIndexed, FedEachIndexed};
 ghost use Rattle.index_feed_many.specs.Claims.{Claims};
 
-use feed_many::{RecordsAnswer, Told};
-use feed_single::FeedAnswer;
+use base::Refusal;
+use feed_many::Told;
 
 // Feeds a record to memory in order with an index that agrees, and keeps up where the parts stand.
 fn feed_next(
@@ -44,15 +44,15 @@ fn feed_next(
         rec,
     );
     match answer {
-        FeedAnswer::Events(n) => {
+        Ok(n) => {
             index_part_places::note_block(store, order, starts, at, part);
             Told {
                 outcome: n,
                 words: 3 * (n as usize),
             }
         }
-        FeedAnswer::Refused(number) => Told {
-            outcome: feed_many::REFUSED + number,
+        Err(refusal) => Told {
+            outcome: feed_many::REFUSED + refusal.number(),
             words: 0,
         },
     }
@@ -112,7 +112,7 @@ pub fn feed_records_indexed(
     events: &mut [u64],
     outcomes: &mut [u64],
     records: &[u8],
-) -> RecordsAnswer
+) -> Result<u64, Refusal>
     ensures result_value { as_records_answer result ≡ (feed_records_indexed stakes.now (lent_of store.old table.old work.old events.old) index.old outcomes.old records.now).answer }
     ensures store_after { store.new ≡ (feed_records_indexed stakes.now (lent_of store.old table.old work.old events.old) index.old outcomes.old records.now).store }
     ensures table_after { table.new ≡ (feed_records_indexed stakes.now (lent_of store.old table.old work.old events.old) index.old outcomes.old records.now).table }
@@ -122,22 +122,12 @@ pub fn feed_records_indexed(
 {
     let mut order = [0u64; types::MAX_BLOCKS];
     let mut starts = [0u64; types::MAX_BLOCKS];
-    let lent = index_feed_refusals::lent_refusal(
-        stakes,
-        store,
-        table,
-        index,
-        &mut order,
-        &mut starts,
-    );
-    if lent.refusal != 0 {
-        return RecordsAnswer::Refused(lent.refusal);
-    }
+    index_feed_refusals::lent_refusal(stakes, store, table, index, &mut order, &mut starts)?;
     if work.len() < table.len() {
-        return RecordsAnswer::Refused(12);
+        return Err(Refusal::WorkTooShort);
     }
     if outcomes.len() < feed_frames::record_count(records) {
-        return RecordsAnswer::Refused(64);
+        return Err(Refusal::OutcomesTooShort);
     }
     let n = feed_each(
         stakes,
@@ -151,7 +141,7 @@ pub fn feed_records_indexed(
         outcomes,
         records,
     );
-    RecordsAnswer::Records(n as u64)
+    Ok(n as u64)
 }
 
 // What the call means beside other calls.

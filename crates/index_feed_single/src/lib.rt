@@ -7,8 +7,7 @@ ghost use Rattle.feed_single.specs.Answers.{as_feed_answer};
 ghost use Rattle.index_feed_spec.specs.IndexedFeed.{feed_indexed};
 ghost use Rattle.index_feed_refusals.specs.Step.{Agreed};
 
-use feed_single::FeedAnswer;
-use index_growth::Growth;
+use base::Refusal;
 
 // Feeds a record as `feed_single::feed` does, and appends its part to the index. A refusal writes nothing but the work slice.
 pub fn feed_indexed(
@@ -19,7 +18,7 @@ pub fn feed_indexed(
     work: &mut [u64],
     events: &mut [u64],
     rec: &[u8],
-) -> FeedAnswer
+) -> Result<u64, Refusal>
     ensures result_value { as_feed_answer result ≡ (feed_indexed stakes.now (lent_of store.old table.old work.old events.old) index.old rec.now).fed.answer }
     ensures store_after { store.new ≡ (feed_indexed stakes.now (lent_of store.old table.old work.old events.old) index.old rec.now).fed.store }
     ensures table_after { table.new ≡ (feed_indexed stakes.now (lent_of store.old table.old work.old events.old) index.old rec.now).fed.table }
@@ -28,18 +27,14 @@ pub fn feed_indexed(
 {
     let mut order = [0u64; types::MAX_BLOCKS];
     let mut starts = [0u64; types::MAX_BLOCKS];
-    let lent = index_feed_refusals::lent_refusal(
+    let count = index_feed_refusals::lent_refusal(
         stakes,
         store,
         table,
         index,
         &mut order,
         &mut starts,
-    );
-    if lent.refusal != 0 {
-        return FeedAnswer::Refused(lent.refusal);
-    }
-    let count = lent.count;
+    )?;
     feed_agreed(
         stakes,
         store,
@@ -64,7 +59,7 @@ pub fn feed_agreed(
     work: &mut [u64],
     events: &mut [u64],
     rec: &[u8],
-) -> FeedAnswer
+) -> Result<u64, Refusal>
     requires { Agreed stakes.now store.old table.old index.old order.now starts.now }
     ensures result_value { as_feed_answer result ≡ (feed_indexed stakes.now (lent_of store.old table.old work.old events.old) index.old rec.now).fed.answer }
     ensures store_after { store.new ≡ (feed_indexed stakes.now (lent_of store.old table.old work.old events.old) index.old rec.now).fed.store }
@@ -72,13 +67,7 @@ pub fn feed_agreed(
     ensures index_after { index.new ≡ (feed_indexed stakes.now (lent_of store.old table.old work.old events.old) index.old rec.now).index }
     ensures events_after { events.new ≡ (feed_indexed stakes.now (lent_of store.old table.old work.old events.old) index.old rec.now).fed.events }
 {
-    let refusal = feed_refusals::record_refusal(stakes, store, order, table, work, events, rec);
-    if refusal != 0 {
-        return FeedAnswer::Refused(refusal);
-    }
-    let growth = index_growth::grow(store, order, starts, index, rec);
-    let Growth::Grown = growth else {
-        return FeedAnswer::Refused(55);
-    };
-    FeedAnswer::Events(feed_single::accept(stakes, store, order, table, events, rec))
+    feed_refusals::record_refusal(stakes, store, order, table, work, events, rec)?;
+    index_growth::grow(store, order, starts, index, rec)?;
+    Ok(feed_single::accept(stakes, store, order, table, events, rec))
 }

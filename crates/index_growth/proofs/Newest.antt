@@ -16,12 +16,11 @@ use Rattle.index_spec.proofs.Reading.{part_length}
 use Rattle.index_own_runs.specs.Own.{OwnRuns}
 use Rattle.index_pieces.specs.Sources.{Ready, together}
 use Rattle.index_parts.specs.Parts.{Counted}
-use Rattle.index_parts.specs.declared.RunCount.{RunCount}
-use Rattle.index_parts.specs.declared.RunCount.TheVariants.{Runs, TooMany}
 use Rattle.index_check.specs.Known.{Opened}
 use Rattle.index_check.proofs.Opening.{own_ready, opened_runs}
 use Rattle.index_check.proofs.Agreeing.{newest_part}
 use Rattle.index_growth.specs.Growing.{new_part}
+use Rattle.std.specs.Prelude.{None, Some, Option}
 
 -- the sources and the record's own votes make its part
 pub new_runs : (s rec : Bytes) (ix cs : List ℕ) (n : ℕ) (ws : List ℕ) (m : ℕ) → OwnRuns (block_in rec) ws m → Opened (blocks_of s) (block_in rec) ix cs n
@@ -49,15 +48,15 @@ module _ (s rec : Bytes) (ix : List ℕ) (a : index_agrees (blocks_of s) ix ≡ 
   room_enough k = le-ltb (length ix) (used_words (indexed (block_in rec ∷ blocks_of s))) (omega (arith, needed))
 
   -- counted against the room behind its run count
-  module _ (m : get_or ix 0 0 < length ix) (r : RunCount) (h : Counted ((length ix - get_or ix 0 0 - 1) / 10) (new_part s rec) r) where
-    pub counted_short : r ≡ TooMany → index_short (block_in rec ∷ blocks_of s) ix ≡ true
+  module _ (m : get_or ix 0 0 < length ix) (r : Option ℕ) (h : Counted ((length ix - get_or ix 0 0 - 1) / 10) (new_part s rec) r) where
+    pub counted_short : r ≡ None → index_short (block_in rec ∷ blocks_of s) ix ≡ true
     unfolding Counted
     counted_short e =
         let many : (length ix - get_or ix 0 0 - 1) / 10 < length (new_part s rec) = subst (Counted ((length ix - get_or ix 0 0 - 1) / 10) (new_part s rec)) e h
         in
         room_short (omega arith)
 
-    module _ (k : ℕ) (e : r ≡ Runs k) where
+    module _ (k : ℕ) (e : r ≡ Some k) where
       all_counted : (k ≤ (length ix - get_or ix 0 0 - 1) / 10) × (length (new_part s rec) ≡ k)
       unfolding Counted
       all_counted = subst (Counted ((length ix - get_or ix 0 0 - 1) / 10) (new_part s rec)) e h

@@ -1,6 +1,8 @@
 -- Machinery for the contracts of inner functions: the part of a record that is fed. Assumes nothing: these are definitions.
-use Rattle.std.specs.Prelude.{ℕ, ◌≡◌, true, false, List, ◌∷◌}
+use Rattle.std.specs.Prelude.{ℕ, ◌≡◌, true, false, List, ◌∷◌, Result, Ok, Err}
 use Rattle.base.specs.Le.{Bytes}
+use Rattle.base.specs.Refusals.{refusal_number}
+use Rattle.base.specs.declared.refusal.Refusal.{Refusal}
 use Rattle.record_spec.specs.Record.{block_in}
 use Rattle.final_spec.specs.Finality.{blocks_of}
 use Rattle.final_block_votes.specs.Walk.{SortedStore}
@@ -9,8 +11,6 @@ use Rattle.index_spec.specs.Part.{part_in}
 use Rattle.index_spec.specs.Index.{used_part, index_agrees, index_short, appended}
 use Rattle.index_own_runs.specs.Own.{Voting}
 use Rattle.index_check.specs.Known.{Known, Rooted}
-use Rattle.index_growth.specs.declared.Growth.{Growth}
-use Rattle.index_growth.specs.declared.Growth.TheVariants.{Grown, Full}
 
 -- the part of a record that is fed
 unfoldable pub new_part : Bytes → Bytes → List Run
@@ -25,6 +25,6 @@ pub record Growing (s : Bytes) (order starts ix : List ℕ) (rec : Bytes) : Type
   pub rooted : Rooted s (blocks_of s) (block_in rec)
 
 -- there is room for the part, and it was appended; or there is none (55), and nothing changed
-unfoldable pub Grew : Bytes → List ℕ → Bytes → List ℕ → Growth → Type 0
-Grew s ix₀ rec ix Grown = (index_short (block_in rec ∷ blocks_of s) ix₀ ≡ false) × (ix ≡ appended ix₀ (new_part s rec))
-Grew s ix₀ rec ix Full = (index_short (block_in rec ∷ blocks_of s) ix₀ ≡ true) × (ix ≡ ix₀)
+unfoldable pub Grew : Bytes → List ℕ → Bytes → List ℕ → Result (Unit {0}) Refusal → Type 0
+Grew s ix₀ rec ix (Ok u) = (index_short (block_in rec ∷ blocks_of s) ix₀ ≡ false) × (ix ≡ appended ix₀ (new_part s rec))
+Grew s ix₀ rec ix (Err r) = (index_short (block_in rec ∷ blocks_of s) ix₀ ≡ true) × (ix ≡ ix₀) × (refusal_number r ≡ 55)

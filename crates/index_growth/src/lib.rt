@@ -3,24 +3,24 @@
 
 ghost use Rattle.index_growth.specs.Growing.{Growing, Grew};
 
-use index_parts::RunCount;
+use base::Refusal;
 
-// Whether an index grew by a record's part, or has no room for it (55).
-#[derive(Clone, Copy)]
-pub enum Growth {
-    Grown,
-    Full,
-}
-
-// Appends a record's part, if there is room for it. Its own votes are worked out once, and its includes' parts are found once, to count and to append.
-pub fn grow(store: &[u8], order: &[u64], starts: &[u64], index: &mut [u64], rec: &[u8]) -> Growth
+// Appends a record's part, if there is room for it; else 55. Its own votes are worked out once, and its includes' parts are found once, to count and to
+// append.
+pub fn grow(
+    store: &[u8],
+    order: &[u64],
+    starts: &[u64],
+    index: &mut [u64],
+    rec: &[u8],
+) -> Result<(), Refusal>
     requires { Growing store.now order.now starts.now index.old rec.now }
     ensures { Grew store.now index.old rec.now index.new result }
 {
     let used = index[0] as usize;
     let room = index.len() - used;
     if room == 0 {
-        return Growth::Full;
+        return Err(Refusal::IndexTooShort);
     }
     let mut rows = [0u64; index_own_runs::ROWS_WORDS];
     let mut own = [0u64; index_own_runs::RUNS_WORDS];
@@ -38,9 +38,9 @@ pub fn grow(store: &[u8], order: &[u64], starts: &[u64], index: &mut [u64], rec:
         &mut mine_counting,
         (room - 1) / index_runs::RUN_WORDS,
     );
-    let RunCount::Runs(count) = counted else {
-        return Growth::Full;
+    let Some(count) = counted else {
+        return Err(Refusal::IndexTooShort);
     };
     index_append::append_part(index, used, &mut cursors, n, &own, &mut mine, count);
-    Growth::Grown
+    Ok(())
 }

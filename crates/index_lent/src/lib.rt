@@ -1,8 +1,9 @@
 // An index as it is lent: whether it agrees with the store (54), and the refusals with which every question with it begins (5, 10, 54).
 #![tactic(auto)]
 
-ghost use Rattle.std.specs.Prelude.{◌≡◌, true, ◌≤◌, length, take};
+ghost use Rattle.std.specs.Prelude.{◌≡◌, true, ◌≤◌, length, take, IfOk};
 ghost use Rattle.base.specs.Checks.{refusal};
+ghost use Rattle.base.specs.Refusals.{refusal_in};
 ghost use Rattle.final_spec.specs.Finality.{blocks_of};
 ghost use Rattle.final_block_votes.specs.Walk.{SortedStore};
 ghost use Rattle.index_spec.specs.Index.{used_part, index_agrees};
@@ -10,12 +11,12 @@ ghost use Rattle.index_list_spec.specs.Indexed.{indexed_checks};
 ghost use Rattle.index_check.specs.Known.{Known};
 ghost use Rattle.index_lent.specs.Lent.{used_in, Asked};
 
-use committee::{NewCommittee, Stake};
+use base::Refusal;
+use committee::Stake;
 
-// What a question with the index begins with: the first refusal, the total stake and how many blocks are stored.
+// What a question with the index begins with: the total stake and how many blocks are stored.
 #[derive(Clone, Copy)]
 pub struct Question {
-    pub refusal: u64,
     pub total: Stake,
     pub count: usize,
 }
@@ -44,52 +45,37 @@ pub fn agrees(store: &[u8], order: &[u64], index: &[u64], starts: &mut [u64]) ->
     index_check::index_agrees(store, order, &index[..used], starts)
 }
 
-// A question that is refused.
-fn refused(number: u64) -> Question
-    ensures { result.refusal ≡ number }
-{
-    Question {
-        refusal: number,
-        total: Stake(0),
-        count: 0,
-    }
-}
-
-// 5, 10, 54; 0 where none applies, and then `order` and `starts` say in what order the blocks are sorted and where their parts stand.
+// 5, 10, 54; where none applies, `order` and `starts` say in what order the blocks are sorted and where their parts stand.
 pub fn question_refusal(
     stakes: &[u64],
     store: &[u8],
     index: &[u64],
     order: &mut [u64],
     starts: &mut [u64],
-) -> Question
+) -> Result<Question, Refusal>
     requires { (1024 ≤ length order.old) × (1024 ≤ length starts.old) }
-    ensures refusal_value { result.refusal ≡ refusal (indexed_checks stakes.now store.now index.now) }
-    ensures count_bound { result.refusal ≡ 0 → (result.count ≤ 1024) × Asked stakes.now store.now index.now result.total.0 (take result.count order.new) starts.new }
+    ensures refusal_value { refusal_in result ≡ refusal (indexed_checks stakes.now store.now index.now) }
+    ensures count_bound { IfOk result (λ asked. (asked.count ≤ 1024) × Asked stakes.now store.now index.now asked.total.0 (take asked.count order.new) starts.new) }
 {
-    let NewCommittee::Taken(total) = committee::new_committee(stakes) else {
-        return refused(5);
+    let Ok(total) = committee::new_committee(stakes) else {
+        return Err(Refusal::BrokenCommittee);
     };
     if !store_order::in_order(stakes, store) {
-        return refused(10);
+        return Err(Refusal::StoreNotInOrder);
     }
     let count = final_block_votes::sorted_positions(store, order);
     if !agrees(store, &order[..count], index, starts) {
-        return refused(54);
+        return Err(Refusal::IndexDisagrees);
     }
-    Question {
-        refusal: 0,
-        total,
-        count,
-    }
+    Ok(Question { total, count })
 }
 
-// The first of 5, 10, 54 that applies; 0 where none does.
-pub fn indexed_refusal(stakes: &[u64], store: &[u8], index: &[u64]) -> u64
-    ensures { result ≡ refusal (indexed_checks stakes.now store.now index.now) }
+// The first of 5, 10, 54 that applies.
+pub fn indexed_refusal(stakes: &[u64], store: &[u8], index: &[u64]) -> Result<(), Refusal>
+    ensures { refusal_in result ≡ refusal (indexed_checks stakes.now store.now index.now) }
 {
     let mut order = [0u64; types::MAX_BLOCKS];
     let mut starts = [0u64; types::MAX_BLOCKS];
-    let asked = question_refusal(stakes, store, index, &mut order, &mut starts);
-    asked.refusal
+    question_refusal(stakes, store, index, &mut order, &mut starts)?;
+    Ok(())
 }

@@ -4,7 +4,7 @@
 
 ghost use Rattle.std.specs.Prelude.{◌≡◌, true, false};
 ghost use Rattle.final_spec.specs.Finality.{blocks_of};
-ghost use Rattle.list_after.specs.Answers.{as_maybe};
+ghost use Rattle.types.specs.Values.{as_maybe};
 ghost use Rattle.list_stretches_spec.specs.Stretches.{wide};
 ghost use Rattle.list_ordinary_spec.specs.Ordinary.{ordinary};
 ghost use Rattle.final_readings_spec.specs.Readings.{old};
@@ -13,10 +13,11 @@ ghost use Rattle.list_readings_spec.specs.Lists.{listing};
 ghost use Rattle.list_stretch_bytes.specs.Answers.{as_stretches};
 ghost use Rattle.index_list_spec.specs.Indexed.{list_stretches_indexed};
 
+use base::Refusal;
 use final_readings_spec::Reading;
-use list_after::MaybeLocator;
 use list_readings_spec::FinalList;
-use list_stretch_bytes::StretchesAnswer;
+use list_stretch_bytes::Stretches;
+use types::TransactionLocator;
 
 // The ordinary or the wide list with the index, from the start or after a given locator on, as many stretches as the slice holds.
 pub fn list_stretches_indexed(
@@ -25,17 +26,14 @@ pub fn list_stretches_indexed(
     list: FinalList,
     index: &[u64],
     out: &mut [u8],
-    after: MaybeLocator,
-) -> StretchesAnswer
+    after: Option<TransactionLocator>,
+) -> Result<Stretches, Refusal>
     ensures result_value { as_stretches result ≡ (list_stretches_indexed stakes.now store.now index.now (listing (is_ordinary list) old stakes.now (blocks_of store.now)) out.old (as_maybe after)).answer }
     ensures out_after { out.new ≡ (list_stretches_indexed stakes.now store.now index.now (listing (is_ordinary list) old stakes.now (blocks_of store.now)) out.old (as_maybe after)).out }
 {
     let mut order = [0u64; types::MAX_BLOCKS];
     let mut starts = [0u64; types::MAX_BLOCKS];
-    let question = index_lent::question_refusal(stakes, store, index, &mut order, &mut starts);
-    if question.refusal != 0 {
-        return StretchesAnswer::Refused(question.refusal);
-    }
+    let question = index_lent::question_refusal(stakes, store, index, &mut order, &mut starts)?;
     let total = question.total;
     let count = question.count;
     list_bulk::fill_stretches(
@@ -57,8 +55,8 @@ pub fn final_stretches_indexed(
     store: &[u8],
     index: &[u64],
     out: &mut [u8],
-    after: MaybeLocator,
-) -> StretchesAnswer
+    after: Option<TransactionLocator>,
+) -> Result<Stretches, Refusal>
     ensures result_value { as_stretches result ≡ (list_stretches_indexed stakes.now store.now index.now (ordinary stakes.now (blocks_of store.now)) out.old (as_maybe after)).answer }
     ensures out_after { out.new ≡ (list_stretches_indexed stakes.now store.now index.now (ordinary stakes.now (blocks_of store.now)) out.old (as_maybe after)).out }
 {
@@ -71,8 +69,8 @@ pub fn wide_stretches_indexed(
     store: &[u8],
     index: &[u64],
     out: &mut [u8],
-    after: MaybeLocator,
-) -> StretchesAnswer
+    after: Option<TransactionLocator>,
+) -> Result<Stretches, Refusal>
     ensures result_value { as_stretches result ≡ (list_stretches_indexed stakes.now store.now index.now (wide stakes.now (blocks_of store.now)) out.old (as_maybe after)).answer }
     ensures out_after { out.new ≡ (list_stretches_indexed stakes.now store.now index.now (wide stakes.now (blocks_of store.now)) out.old (as_maybe after)).out }
 {

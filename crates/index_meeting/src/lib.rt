@@ -10,7 +10,6 @@ ghost use Rattle.index_meeting.specs.Step.{NextIf, Passed};
 
 use committee_set::AuthoritySet;
 use index_runs::{Place, Run};
-use index_source_meeting::Voters;
 
 // Whether two sets have the same voters.
 fn same_voters(v: AuthoritySet, w: AuthoritySet) -> bool
@@ -60,11 +59,11 @@ pub fn run_meets(
 {
     let mut next = [0u64; 2];
     let own_voters = index_source_meeting::sources_meet(index, pos, own, mine, 1, &mut next);
-    let Voters::Named(v, v_after) = own_voters else {
+    let Some((v, v_after)) = own_voters else {
         return false;
     };
     let voters = index_source_meeting::sources_meet(index, pos, index, cursors, n, ahead);
-    let Voters::Named(w, w_after) = voters else {
+    let Some((w, w_after)) = voters else {
         return false;
     };
     let votes = committee_set::union(v, w);

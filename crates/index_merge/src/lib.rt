@@ -9,7 +9,7 @@ ghost use Rattle.index_runs.specs.Values.{as_run, as_maybe, as_place};
 ghost use Rattle.index_pieces.specs.Pieces.{PieceOr, first_piece, skipped};
 ghost use Rattle.index_pieces.specs.Sources.{named_by, Ready, Moved, together, ended, GrownFrom};
 
-use index_runs::{MaybeRun, Place, Run};
+use index_runs::{Place, Run};
 
 // ---- sources: parts of the index, each with a cursor of two words, where its next run stands and how many are left
 
@@ -18,7 +18,7 @@ use index_runs::{MaybeRun, Place, Run};
 struct Found {
     at: usize,
     left: usize,
-    piece: MaybeRun,
+    piece: Option<Run>,
 }
 
 // The first piece of a source from a place on.
@@ -33,14 +33,14 @@ fn source_piece(index: &[u64], from: usize, count: usize, place: Place) -> Found
     while 0 < left {
         let found = index_pieces::from_place(place, index_runs::read_run(index, at));
         match found {
-            MaybeRun::Here(x) => {
+            Some(x) => {
                 return Found {
                     at,
                     left,
-                    piece: MaybeRun::Here(x),
+                    piece: Some(x),
                 };
             }
-            MaybeRun::Nothing => {
+            None => {
                 at = at + index_runs::RUN_WORDS;
                 left = left - 1;
             }
@@ -49,7 +49,7 @@ fn source_piece(index: &[u64], from: usize, count: usize, place: Place) -> Found
     Found {
         at,
         left,
-        piece: MaybeRun::Nothing,
+        piece: None,
     }
 }
 
@@ -59,15 +59,14 @@ fn sources_piece(
     cursors: &mut [u64],
     n: usize,
     place: Place,
-    other: MaybeRun,
-) -> MaybeRun
+    other: Option<Run>,
+) -> Option<Run>
     requires { Ready index.now cursors.old n }
     ensures piece_or { (f : Locator → Voters) → PieceOr f (as_place place) (as_maybe other) → PieceOr (λ l. united (f l) (named_by index.now cursors.old n l)) (as_place place) (as_maybe result) }
     ensures moved { Moved index.now n (as_place place) cursors.old cursors.new }
 {
     let mut piece = other;
-    let mut k: usize = 0;
-    while k < n {
+    for k in 0..n {
         let found = source_piece(
             index,
             cursors[2 * k] as usize,
@@ -78,7 +77,6 @@ fn sources_piece(
         cursors[2 * k + 1] = found.left as u64;
         let more = found.piece;
         piece = index_pieces::both(piece, more);
-        k = k + 1;
     }
     piece
 }
@@ -89,7 +87,7 @@ fn sources_piece(
 #[derive(Clone, Copy)]
 pub struct Grown {
     pub run: Run,
-    pub next: MaybeRun,
+    pub next: Option<Run>,
 }
 
 // The first piece of a source in some words and of n in the index together, from a place on. The cursors move on.
@@ -100,12 +98,12 @@ pub fn next_piece(
     own: &[u64],
     mine: &mut [u64],
     place: Place,
-) -> MaybeRun
+) -> Option<Run>
     requires { Ready index.now cursors.old n × Ready own.now mine.old 1 }
     ensures piece_or { PieceOr (together own.now mine.old index.now cursors.old n) (as_place place) (as_maybe result) }
     ensures moved { Moved index.now n (as_place place) cursors.old cursors.new × Moved own.now 1 (as_place place) mine.old mine.new }
 {
-    let piece = sources_piece(own, mine, 1, place, MaybeRun::Nothing);
+    let piece = sources_piece(own, mine, 1, place, None);
     sources_piece(index, cursors, n, place, piece)
 }
 
@@ -140,17 +138,11 @@ pub fn whole_run(
     loop {
         let run = ended(first, end);
         let next = next_piece(index, cursors, n, own, mine, Place::Beyond(block, end));
-        let MaybeRun::Here(y) = next else {
-            return Grown {
-                run,
-                next: MaybeRun::Nothing,
-            };
+        let Some(y) = next else {
+            return Grown { run, next: None };
         };
         if !index_pieces::continues(run, y) {
-            return Grown {
-                run,
-                next: MaybeRun::Here(y),
-            };
+            return Grown { run, next: Some(y) };
         }
         end = y.end;
     }

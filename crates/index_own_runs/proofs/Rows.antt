@@ -2,7 +2,7 @@
 use mathlib.Core.Path.{◌≡◌, refl, sym, ap, subst, ◌∙◌}
 use mathlib.Core.Bool.{Bool, true, false, ◌||◌}
 use mathlib.Core.List.{List, [], ◌∷◌, map}
-use mathlib.Core.Option.{Option, none, some, none-ne-some}
+use mathlib.Core.Option.{none, some, none-ne-some}
 use Prim.Native.Nat.{ℕ, ◌*◌, ◌≤◌}
 use native.Mathlib.Omega.{arith}
 use lib.ListN.{length}
@@ -12,7 +12,7 @@ use Rattle.base.specs.Le.{Bytes}
 use Rattle.base.proofs.Lists.{Every, and, none_of, Pairs, with_later, no_pairs, every, every_one}
 use Rattle.committee_set.specs.AuthoritySet.{AuthoritySet, nobody, inserted, united}
 use Rattle.committee_set.proofs.Words.{united_nobody, nobody_united}
-use Rattle.record_spec.specs.Reference.{TransactionLocator, locator, covers}
+use Rattle.record_spec.specs.Reference.{TransactionLocator, locator}
 use Rattle.record_spec.specs.Block.{Statement, share, accept, reject, vote_range, Block, author, is_share, voted_range, spans}
 use Rattle.record_spec.specs.Record.{block_in}
 use Rattle.base.proofs.Le.{AllBytes}

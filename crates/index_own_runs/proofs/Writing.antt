@@ -3,7 +3,7 @@ use mathlib.Core.Path.{◌≡◌, refl, sym, ap, subst, ◌∙◌}
 use mathlib.Core.List.{List, [], ◌∷◌, ◌++◌, map, flatten, append-nil, map-append}
 use Prim.Native.Nat.{ℕ, ◌+◌, ◌*◌, ◌^◌, ◌≤◌, ◌<◌}
 use native.Mathlib.Omega.{arith}
-use lib.ListN.{length, get_or, take, drop, length-map, length-drop, take-append-drop}
+use lib.ListN.{length, take, drop, length-map, length-drop, take-append-drop}
 use lib.Seq.{sets, length-sets, sets-eq, length-take-le}
 use Rattle.base.specs.Lists.{count_from, ◌∈◌}
 use Rattle.base.specs.Le.{Bytes, le_number, le_at}
@@ -13,7 +13,7 @@ use Rattle.base.proofs.Lists.{Every, every_in, flatten_append}
 use Rattle.committee_set.specs.AuthoritySet.{AuthoritySet}
 use Rattle.record_spec.proofs.Records.{ReferenceFits}
 use Rattle.record_reference_bytes.specs.Step.{reference_at}
-use Rattle.list_row_sort.specs.Rows.{Row, row_at, rows_from, rows_of}
+use Rattle.list_row_sort.specs.Rows.{row_at, rows_from, rows_of}
 use Rattle.list_row_sort.proofs.Tables.{length_rows, rows_more}
 use Rattle.list_range_rows.specs.Ranges.{Proper}
 use Rattle.index_spec.specs.Runs.{Run, run}

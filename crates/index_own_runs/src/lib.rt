@@ -11,7 +11,6 @@ ghost use Rattle.index_own_runs.specs.Own.{Voting, row_run, OwnRuns};
 
 use committee_set::AuthoritySet;
 use index_runs::Run;
-use list_after::MaybeLocator;
 use list_kind_ranges::RangeKind;
 
 // Words for a row, and for a run, of each of 1,024 statements.
@@ -25,8 +24,7 @@ fn write_runs(rec: &[u8], rows: &[u64], m: usize, votes: AuthoritySet, words: &m
     ensures words_len_unchanged { length words.new ≡ length words.old }
     ensures words_after { runs_from m words.new ≡ map (row_run rec.now votes) (rows_of rows.now m) }
 {
-    let mut i: usize = 0;
-    while i < m {
+    for i in 0..m {
         let from = list_row_sort::ROW_WORDS * i;
         let block = record_reference_bytes::read_reference(rec, rows[from] as usize);
         let run = Run {
@@ -36,7 +34,6 @@ fn write_runs(rec: &[u8], rows: &[u64], m: usize, votes: AuthoritySet, words: &m
             votes,
         };
         index_runs::write_run(words, index_runs::RUN_WORDS * i, run);
-        i += 1;
     }
 }
 
@@ -46,7 +43,7 @@ pub fn own_runs(rec: &[u8], rows: &mut [u64], words: &mut [u64]) -> usize
     ensures rows_len_unchanged { (length rows.new ≡ length rows.old) × (length words.new ≡ length words.old) }
     ensures own_runs { OwnRuns (block_in rec.now) words.new result }
 {
-    let all = MaybeLocator::Nothing;
+    let all = None;
     let m = list_own_ranges::own_ranges(rec, 0, rec, RangeKind::Votes, all, all, rows, words);
     let block = record_reader::reference(rec);
     let votes = AuthoritySet::new().insert(block.authority);

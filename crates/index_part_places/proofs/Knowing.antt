@@ -3,7 +3,7 @@ use mathlib.Core.Path.{◌≡◌, refl, sym, ap, subst, ◌∙◌}
 use mathlib.Core.Logic.{◌⊎◌, inl, inr}
 use mathlib.Core.Bool.{true, false}
 use mathlib.Core.List.{List, ◌∷◌}
-use Prim.Native.Nat.{ℕ, ◌+◌, ◌-◌, ◌≤◌, ◌<◌}
+use Prim.Native.Nat.{ℕ, ◌-◌, ◌≤◌, ◌<◌}
 use native.Mathlib.Omega.{arith}
 use native.Mathlib.Decide.{dec_lt}
 use lib.ListN.{length, get_or}
@@ -25,7 +25,6 @@ use Rattle.store_spec.proofs.Lookups.{stored_entry}
 use Rattle.store_spec.proofs.Search.{laid_out_lem, order_entry}
 use Rattle.final_spec.specs.Finality.{blocks_of}
 use Rattle.final_block_votes.specs.Walk.{block_at_place}
-use Rattle.index_spec.specs.Runs.{Run}
 use Rattle.index_spec.specs.Part.{part_in}
 use Rattle.index_spec.specs.Index.{indexed, used_words, index_words}
 use Rattle.index_check.specs.Known.{Stands, Known}

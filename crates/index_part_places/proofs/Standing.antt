@@ -7,7 +7,7 @@ use native.Mathlib.Omega.{arith}
 use native.Mathlib.Numerals.{add-one}
 use lib.ListN.{length, get_or, drop, length-append, length-drop, get_or-append}
 use lib.Seq.{drop-append-le}
-use Rattle.base.specs.Lists.{◌∈◌, same}
+use Rattle.base.specs.Lists.{◌∈◌}
 use Rattle.base.specs.Le.{Bytes}
 use Rattle.base.proofs.Le.{AllBytes}
 use Rattle.base.proofs.Lists.{every_in}
@@ -15,7 +15,6 @@ use Rattle.base.proofs.Members.{map_in}
 use Rattle.base.proofs.Orders.{same_true}
 use Rattle.record_spec.specs.Block.{Block}
 use Rattle.record_spec.proofs.Records.{ReferenceFits, BlockFits, block_of_fits}
-use Rattle.store_spec.specs.Layout.{Record}
 use Rattle.store_spec.specs.Store.{records_of}
 use Rattle.store_spec.proofs.Store.{records_of_bytes, records_of_right, right_block}
 use Rattle.final_spec.specs.Finality.{blocks_of}

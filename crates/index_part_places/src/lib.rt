@@ -11,12 +11,10 @@ fn place_at(words: &[u64], word: u64) -> usize
     requires { is_in word words.now ≡ true }
     ensures { (result < length words.now) × (get_or words.now result 0 ≡ word) }
 {
-    let mut k: usize = 0;
-    while k < words.len() {
+    for k in 0..words.len() {
         if words[k] == word {
             return k;
         }
-        k += 1;
     }
     // Never so: it is among them.
     0

@@ -21,10 +21,10 @@ use Rattle.index_cursors.specs.Spots.{SpotAfter}
 use Rattle.index_shared.specs.Shared.{Nexts, onward, RunsPassed}
 use Rattle.index_cursors.specs.declared.Spot.{Spot}
 use Rattle.index_parts.specs.Parts.{RunPassed, StoodOver, Compared}
-use Rattle.index_parts.specs.declared.PartEnd.TheVariants.{Ends, Differs}
 use Rattle.index_strides.proofs.Words.{runs_words, part_count, part_body, run_stands, Stood, stood_start, stood_on, stood_part, row_stands}
 use Rattle.index_strides.proofs.Stepping.{Left, Standing, next_same, Begun, begun, nexts_at, nexts_same, standing_start, standing_none, standing_more}
 use Rattle.index_strides.proofs.Stepping.{standing_first}
+use Rattle.std.specs.Prelude.{None, Some}
 
 -- ---- a run and those that the sources share after it
 
@@ -164,7 +164,7 @@ module _ (own ms₀ ms ix : List ℕ) (n : ℕ) (cs₀ cs : List ℕ) (s : Spot)
   -- the next run does not stand there
   pub holding_differs : 0 < s.left →
       ((y : Run) → NextRun (together own ms ix cs n) (as_place s.place) y → starts_with (run_words y) (drop s.pos ix) ≡ true → ⊥)
-      → (xs : List Run) → RunsOf all xs → Compared ix at xs Differs
+      → (xs : List Run) → RunsOf all xs → Compared ix at xs None
   unfolding Compared
   holding_differs g differs xs r rest e =
       let m = part_count ix at xs rest e in
@@ -176,7 +176,7 @@ module _ (own ms₀ ms ix : List ℕ) (n : ℕ) (cs₀ cs : List ℕ) (s : Spot)
 
   module _ (done : s.left ≡ 0) (o : Option Run) (d : PieceOr (together own ms ix cs n) (as_place s.place) o) where
     -- nobody is named any more
-    pub holding_end : o ≡ none → (xs : List Run) → RunsOf all xs → Compared ix at xs (Ends s.pos)
+    pub holding_end : o ≡ none → (xs : List Run) → RunsOf all xs → Compared ix at xs (Some s.pos)
     unfolding Compared
     holding_end e xs r =
         let m : length xs ≡ count - s.left = standing_none own ms₀ ix n cs₀ ms cs (as_place s.place) (count - s.left) h.held.standing o d e xs r in
@@ -191,7 +191,7 @@ module _ (own ms₀ ms ix : List ℕ) (n : ℕ) (cs₀ cs : List ℕ) (s : Spot)
         )
 
     -- a run is left
-    pub holding_more : (x : Run) → o ≡ some x → (xs : List Run) → RunsOf all xs → Compared ix at xs Differs
+    pub holding_more : (x : Run) → o ≡ some x → (xs : List Run) → RunsOf all xs → Compared ix at xs None
     unfolding Compared
     holding_more x e xs r rest f =
         omega

@@ -10,12 +10,8 @@ use Rattle.index_runs.specs.Values.{as_place, starts_with}
 use Rattle.index_pieces.specs.Sources.{Ready, together}
 use Rattle.index_shared.specs.Shared.{Nexts}
 use Rattle.index_cursors.specs.declared.Spot.{Spot}
-use Rattle.index_parts.specs.declared.Stands.{Stands}
-use Rattle.index_parts.specs.declared.Stands.TheVariants.{On, Elsewhere}
-use Rattle.index_parts.specs.declared.PartEnd.{PartEnd}
-use Rattle.index_parts.specs.declared.PartEnd.TheVariants.{Ends, Differs}
-use Rattle.index_parts.specs.declared.RunCount.{RunCount}
-use Rattle.index_parts.specs.declared.RunCount.TheVariants.{Runs, TooMany}
+use Rattle.std.specs.Prelude.{None, Some}
+use Rattle.std.specs.declared.option.Option as code
 
 -- a run is the next one from a place on; the cursors were moved, and name the same from its end on
 pub record RunPassed (own ms₀ ms ix : List ℕ) (n : ℕ) (cs₀ cs : List ℕ) (p : Place) (x : Run) : Type 0 where
@@ -46,17 +42,17 @@ pub record StoodOver (own ms₀ ms ix : List ℕ) (n : ℕ) (cs₀ cs : List ℕ
   pub own_ready : Ready own ms 1
   pub told : (l : TransactionLocator) → At (as_place r.place) l.block l.offset → together own ms ix cs n l ≡ together own ms₀ ix cs₀ n l
 
-unfoldable pub StandsOn : List ℕ → List ℕ → List ℕ → List ℕ → ℕ → List ℕ → List ℕ → Spot → Stands → Type 0
-StandsOn own ms₀ ms ix n cs₀ cs s (On r) = StoodOver own ms₀ ms ix n cs₀ cs s r
-StandsOn own ms₀ ms ix n cs₀ cs s Elsewhere = (y : Run) → NextRun (together own ms₀ ix cs₀ n) (as_place s.place) y → starts_with (run_words y)
+unfoldable pub StandsOn : List ℕ → List ℕ → List ℕ → List ℕ → ℕ → List ℕ → List ℕ → Spot → code.Option Spot → Type 0
+StandsOn own ms₀ ms ix n cs₀ cs s (Some r) = StoodOver own ms₀ ms ix n cs₀ cs s r
+StandsOn own ms₀ ms ix n cs₀ cs s None = (y : Run) → NextRun (together own ms₀ ix cs₀ n) (as_place s.place) y → starts_with (run_words y)
     (drop s.pos ix) ≡ true → ⊥
 
 -- the part stands there and ends so; or it does not stand there
-unfoldable pub Compared : List ℕ → ℕ → List Run → PartEnd → Type 0
-Compared ix at xs (Ends e) = (e ≡ at + length (part_words xs)) × ((e ≤ length ix) × (drop at ix ≡ part_words xs ++ drop e ix))
-Compared ix at xs Differs = (rest : List ℕ) → drop at ix ≡ part_words xs ++ rest → ⊥
+unfoldable pub Compared : List ℕ → ℕ → List Run → code.Option ℕ → Type 0
+Compared ix at xs (Some e) = (e ≡ at + length (part_words xs)) × ((e ≤ length ix) × (drop at ix ≡ part_words xs ++ drop e ix))
+Compared ix at xs None = (rest : List ℕ) → drop at ix ≡ part_words xs ++ rest → ⊥
 
 -- the number of its runs; or there are more
-unfoldable pub Counted : ℕ → List Run → RunCount → Type 0
-Counted most xs (Runs k) = (k ≤ most) × (length xs ≡ k)
-Counted most xs TooMany = most < length xs
+unfoldable pub Counted : ℕ → List Run → code.Option ℕ → Type 0
+Counted most xs (Some k) = (k ≤ most) × (length xs ≡ k)
+Counted most xs None = most < length xs

@@ -13,8 +13,8 @@ use Rattle.committee_set.proofs.Words.{united_nobody, nobody_united}
 use Rattle.record_spec.specs.Reference.{BlockReference, TransactionLocator, locator, reference_before}
 use Rattle.record_spec.proofs.References.{reference_same, reference_irrefl, reference_trans}
 use Rattle.types.specs.Values.{reference_order}
-use Rattle.types.specs.declared.Ordering.{Ordering}
-use Rattle.types.specs.declared.Ordering.TheVariants.{Less, Equal, Greater}
+use Rattle.std.specs.declared.cmp.Ordering.{Ordering}
+use Rattle.std.specs.declared.cmp.Ordering.TheVariants.{Less, Equal, Greater}
 use Rattle.types.proofs.Words.{compared_equal, compared_less, compared_greater}
 use Rattle.index_spec.specs.Runs.{Run, run, voters_in}
 use Rattle.index_spec.specs.Walk.{Past, by_block, by_offset, Place, anywhere, beyond, At}

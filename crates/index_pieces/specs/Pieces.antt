@@ -6,8 +6,8 @@ use Rattle.base.specs.Lists.{pick}
 use Rattle.committee_set.specs.AuthoritySet.{AuthoritySet, nobody, united}
 use Rattle.record_spec.specs.Reference.{TransactionLocator}
 use Rattle.types.specs.Values.{reference_order}
-use Rattle.types.specs.declared.Ordering.{Ordering}
-use Rattle.types.specs.declared.Ordering.TheVariants.{Less, Equal, Greater}
+use Rattle.std.specs.declared.cmp.Ordering.{Ordering}
+use Rattle.std.specs.declared.cmp.Ordering.TheVariants.{Less, Equal, Greater}
 use Rattle.index_spec.specs.Runs.{Run, run}
 use Rattle.index_spec.specs.Part.{Stretch}
 use Rattle.index_spec.specs.Walk.{Place, anywhere, beyond, Past, At}

@@ -7,30 +7,30 @@ ghost use Rattle.index_runs.specs.Values.{as_run, as_maybe, as_place};
 ghost use Rattle.index_pieces.specs.Pieces.{nearer, cut, overlaid, both, from_place};
 
 use committee_set::AuthoritySet;
-use index_runs::{MaybeRun, Place, Run};
-use types::Ordering;
+use index_runs::{Place, Run};
+use std::cmp::Ordering;
 
 // What is left of a run from a place on.
-pub fn from_place(place: Place, x: Run) -> MaybeRun
+pub fn from_place(place: Place, x: Run) -> Option<Run>
     ensures { as_maybe result ≡ from_place (as_place place) (as_run x) }
 {
     let Place::Beyond(block, offset) = place else {
-        return MaybeRun::Here(x);
+        return Some(x);
     };
     let order = types::compare(block, x.block);
     match order {
-        Ordering::Less => MaybeRun::Here(x),
-        Ordering::Greater => MaybeRun::Nothing,
+        Ordering::Less => Some(x),
+        Ordering::Greater => None,
         Ordering::Equal => {
             if x.end <= offset {
-                return MaybeRun::Nothing;
+                return None;
             }
             if offset <= x.start {
-                return MaybeRun::Here(x);
+                return Some(x);
             }
             let of = x.block;
             let votes = x.votes;
-            MaybeRun::Here(Run {
+            Some(Run {
                 block: of,
                 start: offset,
                 end: x.end,
@@ -92,16 +92,16 @@ fn overlaid(x: Run, y: Run) -> Run
 }
 
 // The same where either may have none.
-pub fn both(x: MaybeRun, y: MaybeRun) -> MaybeRun
+pub fn both(x: Option<Run>, y: Option<Run>) -> Option<Run>
     ensures { as_maybe result ≡ both (as_maybe x) (as_maybe y) }
 {
-    let MaybeRun::Here(a) = x else {
+    let Some(a) = x else {
         return y;
     };
-    let MaybeRun::Here(b) = y else {
+    let Some(b) = y else {
         return x;
     };
-    MaybeRun::Here(overlaid(a, b))
+    Some(overlaid(a, b))
 }
 
 // Whether a run begins where another ends and has its voters.

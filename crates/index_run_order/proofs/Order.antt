@@ -4,7 +4,7 @@ use Prim.Native.Nat.{ℕ, ◌≤◌}
 use Rattle.record_spec.specs.Reference.{BlockReference}
 use Rattle.record_spec.proofs.References.{reference_same}
 use Rattle.types.specs.Values.{reference_order}
-use Rattle.types.specs.declared.Ordering.TheVariants.{Less, Equal}
+use Rattle.std.specs.declared.cmp.Ordering.TheVariants.{Less, Equal}
 use Rattle.types.proofs.Words.{compared_equal, compared_less}
 use Rattle.index_spec.specs.Walk.{Past, by_block, by_offset}
 

@@ -7,7 +7,7 @@ ghost use Rattle.index_runs.specs.Values.{as_run, as_place};
 ghost use Rattle.index_run_order.specs.Apart.{GoesOn, Apart};
 
 use index_runs::{Place, Run};
-use types::Ordering;
+use std::cmp::Ordering;
 
 // Whether a run begins at the end of another or past it.
 pub fn begins_past(x: Run, y: Run) -> bool
@@ -55,12 +55,10 @@ pub fn apart_runs(index: &[u64], pos: usize, most: usize) -> usize
     requires { pos + 10 * most ≤ length index.now }
     ensures { (result ≤ most) × Apart index.now pos result }
 {
-    let mut k: usize = 1;
-    while k < most {
+    for k in 1..most {
         if goes_on(index, pos + index_runs::RUN_WORDS * (k - 1)) {
             return k;
         }
-        k += 1;
     }
     most
 }

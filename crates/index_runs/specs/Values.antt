@@ -6,17 +6,17 @@ use Rattle.types.specs.Values.{as_reference}
 use Rattle.index_spec.specs.Runs as runs
 use Rattle.index_spec.specs.Walk as walk
 use Rattle.index_runs.specs.declared.Run as run
-use Rattle.index_runs.specs.declared.MaybeRun.{MaybeRun}
-use Rattle.index_runs.specs.declared.MaybeRun.TheVariants.{Here, Nothing}
 use Rattle.index_runs.specs.declared.Place.{Place}
 use Rattle.index_runs.specs.declared.Place.TheVariants.{Anywhere, Beyond}
+use Rattle.std.specs.Prelude.{None, Some}
+use Rattle.std.specs.declared.option.Option as code
 
 unfoldable pub as_run : run.Run → runs.Run
 as_run x = runs.run (as_reference x.block) x.start x.end x.votes
 
-unfoldable pub as_maybe : MaybeRun → Option runs.Run
-as_maybe (Here x) = some (as_run x)
-as_maybe Nothing = none
+unfoldable pub as_maybe : code.Option run.Run → Option runs.Run
+as_maybe (Some x) = some (as_run x)
+as_maybe None = none
 
 unfoldable pub as_place : Place → walk.Place
 as_place Anywhere = walk.anywhere

@@ -24,12 +24,6 @@ pub struct Run {
     pub votes: AuthoritySet,
 }
 
-#[derive(Clone, Copy)]
-pub enum MaybeRun {
-    Here(Run),
-    Nothing,
-}
-
 // From where on runs are asked for: from the start, or from an offset of a block.
 #[derive(Clone, Copy)]
 pub enum Place {

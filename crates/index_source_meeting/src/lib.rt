@@ -18,20 +18,13 @@ pub struct Onward {
     pub after: AuthoritySet,
 }
 
-// The source has a run of the same offsets next, or begins past the run; or it does neither.
-#[derive(Clone, Copy)]
-pub enum Meeting {
-    Met(Onward),
-    Across,
-}
-
-// How a source stands to the run at a position.
-fn source_meets(index: &[u64], pos: usize, words: &[u64], at: usize, left: usize) -> Meeting
+// How a source stands to the run at a position: it has a run of the same offsets next, or begins past the run; none if it does neither.
+fn source_meets(index: &[u64], pos: usize, words: &[u64], at: usize, left: usize) -> Option<Onward>
     requires { (pos + 10 ≤ length index.now) × (at + 10 * left ≤ length words.now) }
     ensures { SourceMet (run_from (drop pos index.now)) words.now at left result }
 {
     if left == 0 {
-        return Meeting::Met(Onward {
+        return Some(Onward {
             at,
             left,
             votes: AuthoritySet::new(),
@@ -46,7 +39,7 @@ fn source_meets(index: &[u64], pos: usize, words: &[u64], at: usize, left: usize
             low: words[at + 8],
             high: words[at + 9],
         };
-        return Meeting::Met(Onward {
+        return Some(Onward {
             at: next,
             left: rest,
             votes,
@@ -57,10 +50,10 @@ fn source_meets(index: &[u64], pos: usize, words: &[u64], at: usize, left: usize
         index_runs::read_run(index, pos),
         index_runs::read_run(words, at),
     ) {
-        return Meeting::Across;
+        return None;
     }
     let after = index_two_runs::after_votes(index, pos, words, at, left);
-    Meeting::Met(Onward {
+    Some(Onward {
         at,
         left,
         votes: AuthoritySet::new(),
@@ -68,14 +61,8 @@ fn source_meets(index: &[u64], pos: usize, words: &[u64], at: usize, left: usize
     })
 }
 
-// Whom the sources name together at the offsets of a run, and whom at its end; or one of them does neither.
-#[derive(Clone, Copy)]
-pub enum Voters {
-    Named(AuthoritySet, AuthoritySet),
-    Unknown,
-}
-
-// How n sources stand to the run at a position; `ahead` are their cursors past it.
+// Whom n sources name together at the offsets of the run at a position, and whom at its end, where each has a run of the same offsets next, or
+// begins past the run; none if one of them does neither. `ahead` are their cursors past it.
 pub fn sources_meet(
     index: &[u64],
     pos: usize,
@@ -83,14 +70,13 @@ pub fn sources_meet(
     cursors: &[u64],
     n: usize,
     ahead: &mut [u64],
-) -> Voters
+) -> Option<(AuthoritySet, AuthoritySet)>
     requires { Ready words.now cursors.now n × ((pos + 10 ≤ length index.now) × (length ahead.old ≡ length cursors.now)) }
     ensures { MetAll (run_from (drop pos index.now)) words.now n cursors.now ahead.new result }
 {
     let mut votes = AuthoritySet::new();
     let mut after = AuthoritySet::new();
-    let mut k: usize = 0;
-    while k < n {
+    for k in 0..n {
         let met = source_meets(
             index,
             pos,
@@ -98,14 +84,13 @@ pub fn sources_meet(
             cursors[2 * k] as usize,
             cursors[2 * k + 1] as usize,
         );
-        let Meeting::Met(m) = met else {
-            return Voters::Unknown;
+        let Some(m) = met else {
+            return None;
         };
         ahead[2 * k] = m.at as u64;
         ahead[2 * k + 1] = m.left as u64;
         votes = committee_set::union(votes, m.votes);
         after = committee_set::union(after, m.after);
-        k = k + 1;
     }
-    Voters::Named(votes, after)
+    Some((votes, after))
 }

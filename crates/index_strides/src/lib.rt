@@ -10,7 +10,7 @@ ghost use Rattle.index_pieces.specs.Sources.{Ready};
 ghost use Rattle.index_runs.specs.Values.{as_run};
 ghost use Rattle.index_strides.specs.Strides.{Strode, stride_runs};
 
-use index_runs::{MaybeRun, Place};
+use index_runs::Place;
 
 // Runs in a row: one, those after it that stand at a position, and the piece with which the next one begins.
 #[derive(Clone, Copy)]
@@ -18,7 +18,7 @@ pub struct Stride {
     pub run: index_runs::Run,
     pub pos: usize,
     pub more: usize,
-    pub next: MaybeRun,
+    pub next: Option<index_runs::Run>,
 }
 
 // The run that begins with a piece and those after it that the sources share; the cursors then stand past them.
@@ -62,10 +62,8 @@ fn copy_on(index: &mut [u64], from: usize, to: usize, count: usize)
     requires { (from + count ≤ to) × (to + count ≤ length index.old) }
     ensures { index.new ≡ sets index.old to (take count (drop from index.old)) }
 {
-    let mut i: usize = 0;
-    while i < count {
+    for i in 0..count {
         index[to + i] = index[from + i];
-        i += 1;
     }
 }
 

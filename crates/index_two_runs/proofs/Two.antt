@@ -13,7 +13,7 @@ use Rattle.committee_set.specs.AuthoritySet.{nobody}
 use Rattle.record_spec.specs.Reference.{same_reference}
 use Rattle.record_spec.proofs.References.{reference_same, same_reference_lem}
 use Rattle.types.specs.Values.{reference_order}
-use Rattle.types.specs.declared.Ordering.TheVariants.{Equal}
+use Rattle.std.specs.declared.cmp.Ordering.TheVariants.{Equal}
 use Rattle.types.proofs.Words.{compared_equal}
 use Rattle.index_spec.specs.Runs.{Run, touches}
 use Rattle.index_spec.specs.Walk.{anywhere, digest_of, run_from, runs_from}

@@ -6,19 +6,17 @@ ghost use Rattle.index_spec.specs.Walk.{run_from, runs_from};
 ghost use Rattle.index_two_runs.specs.Two.{SameOffsets, after_votes};
 
 use committee_set::AuthoritySet;
-use types::Ordering;
+use std::cmp::Ordering;
 
 // Whether the runs at two positions are of the same offsets of one block: the first eight words.
 pub fn same_offsets(index: &[u64], pos: usize, words: &[u64], at: usize) -> bool
     requires { (pos + 10 ≤ length index.now) × (at + 10 ≤ length words.now) }
     ensures { result ≡ true → SameOffsets (run_from (drop pos index.now)) (run_from (drop at words.now)) }
 {
-    let mut i: usize = 0;
-    while i < 8 {
+    for i in 0..8 {
         if index[pos + i] != words[at + i] {
             return false;
         }
-        i += 1;
     }
     true
 }

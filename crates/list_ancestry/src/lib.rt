@@ -17,12 +17,10 @@ pub fn any_marked(own: &[u64], n: usize) -> bool
     requires { n ≤ length own.now }
     ensures { AnyMarked own.now n result }
 {
-    let mut k: usize = 0;
-    while k < n {
+    for k in 0..n {
         if own[k] == 1 {
             return true;
         }
-        k += 1;
     }
     false
 }
@@ -56,12 +54,10 @@ pub fn spread(store: &[u8], order: &[u64], sets: &[u64], own: &[u64], memo: &mut
     ensures { HeardMarked store.now order.now own.now memo.new }
 {
     let mut below = AuthoritySet::new();
-    let mut k: usize = 0;
-    while k < order.len() {
+    for k in 0..order.len() {
         let at = order[k] as usize;
         below = list_include_sets::below_at(sets, k, memo, below);
         let who = with_own(store, at, own[k], below);
         note_set(memo, k, who);
-        k += 1;
     }
 }

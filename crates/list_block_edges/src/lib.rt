@@ -3,14 +3,14 @@
 
 ghost use Rattle.std.specs.Prelude.{◌+◌, ◌*◌, ◌≤◌, ◌<◌, length};
 ghost use Rattle.record_spec.specs.Record.{block_in};
-ghost use Rattle.list_after.specs.Answers.{as_maybe};
+ghost use Rattle.types.specs.Values.{as_maybe};
 ghost use Rattle.list_range_rows.specs.Ranges.{new_row};
 ghost use Rattle.list_own_ranges.specs.Own.{Recorded};
 ghost use Rattle.list_lanes.specs.Lanes.{lane_kind};
 ghost use Rattle.list_block_edges.specs.Taken.{Takeable, EdgesTaken, EdgePut, BlockTaken};
 
-use list_after::MaybeLocator;
 use list_cuts::Window;
+use types::TransactionLocator;
 
 // Puts an edge after the first n rows of a table, if it is after the last locator and not after the bound.
 fn put_edge(
@@ -18,8 +18,8 @@ fn put_edge(
     at: u64,
     offset: u64,
     mark: u64,
-    last: MaybeLocator,
-    bound: MaybeLocator,
+    last: Option<TransactionLocator>,
+    bound: Option<TransactionLocator>,
     edges: &mut [u64],
     n: usize,
 ) -> usize
@@ -43,8 +43,8 @@ fn take_edges(
     rows: &[u64],
     m: usize,
     place: usize,
-    last: MaybeLocator,
-    bound: MaybeLocator,
+    last: Option<TransactionLocator>,
+    bound: Option<TransactionLocator>,
     edges: &mut [u64],
     n: usize,
 ) -> usize
@@ -53,13 +53,11 @@ fn take_edges(
 {
     let mark = 2 * (place as u64);
     let mut k = n;
-    let mut i: usize = 0;
-    while i < m {
+    for i in 0..m {
         let from = list_row_sort::ROW_WORDS * i;
         let at = rows[from];
         k = put_edge(store, at, rows[from + 1], mark + 1, last, bound, edges, k);
         k = put_edge(store, at, rows[from + 2], mark, last, bound, edges, k);
-        i += 1;
     }
     k
 }
@@ -71,7 +69,7 @@ pub fn block_edges(
     start: usize,
     rec: &[u8],
     lane: usize,
-    last: MaybeLocator,
+    last: Option<TransactionLocator>,
     window: Window,
     edges: &mut [u64],
     spare: &mut [u64],

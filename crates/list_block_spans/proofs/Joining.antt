@@ -20,17 +20,17 @@ use Rattle.base.specs.Le.{Bytes}
 use Rattle.record_cursor.specs.Cursor.{cursor_at}
 use Rattle.record_cursor.specs.declared.StatementCursor.{StatementCursor}
 use Rattle.base.proofs.Lists.{any_append}
-use Rattle.record_statement_votes.specs.declared.VotedRange.{VotedRange}
 use Rattle.list_block_spans.specs.Answers.{voted_by, OnwardIn}
 use Rattle.list_block_spans.specs.Joined.{begins_share, lengthened, joined_from, joined_at, joined_spans}
-use Rattle.record_statement_votes.specs.declared.VotedRange.TheVariants.{Range, Nothing}
 use Rattle.record_statement_votes.specs.Votes.{as_voted}
+use Rattle.std.specs.Prelude.{None, Some, Option}
+use Rattle.types.specs.declared.TransactionLocatorRange as ranges
 
 -- a vote as a list
-pub voted_ranges : (v : VotedRange) → voted_by v ≡ Option-to_list (as_voted v)
+pub voted_ranges : (v : Option ranges.TransactionLocatorRange) → voted_by v ≡ Option-to_list (as_voted v)
 unfolding voted_by as_voted Option-to_list
-voted_ranges (Range q) = refl
-voted_ranges Nothing = refl
+voted_ranges (Some q) = refl
+voted_ranges None = refl
 
 -- ---- a run in front
 
@@ -166,7 +166,7 @@ module _ (b : Block) (i : ℕ) where
     run_told e r next q = rw q (joined_shares e, (omega (arith, leading_some e), (leading_inside, refl)))
 
     -- a vote told, or none
-    pub vote_told : is_share (get_or b.statements i no_statement) ≡ false → (vote : VotedRange) → voted_by vote ≡ Option-to_list
+    pub vote_told : is_share (get_or b.statements i no_statement) ≡ false → (vote : Option ranges.TransactionLocatorRange) → voted_by vote ≡ Option-to_list
         (voted_range (get_or b.statements i no_statement))
         → (r : Bytes) (next : StatementCursor) → next ≡ cursor_at r (i + 1) → (joined_at b i ≡ voted_by vote ++ joined_at b next.index) × OnwardIn b r i next
     unfolding OnwardIn cursor_at

@@ -23,10 +23,11 @@ use Rattle.record_cursor.specs.Cursor.{cursor_at}
 use Rattle.record_cursor.specs.declared.StatementCursor.{StatementCursor}
 use Rattle.final_readings_spec.specs.Rejecting.{rejected_in, rejections, rejects}
 use Rattle.final_readings_spec.proofs.Rejecting.{listed}
-use Rattle.record_statement_votes.specs.declared.VotedRange.{VotedRange}
 use Rattle.list_block_spans.specs.Answers.{voted_by, OnwardIn}
 use Rattle.list_block_spans.specs.Ranges.{rejected_range, reject_ranges, ranges_at, ranges_of}
 use Rattle.list_block_spans.proofs.Joining.{joined_end}
+use Rattle.std.specs.Prelude.{Option}
+use Rattle.types.specs.declared.TransactionLocatorRange as ranges
 
 -- ---- from statement to statement
 
@@ -36,7 +37,8 @@ ranges_end true b i h = rw (drop_of_length-le b.statements h)
 ranges_end false b i h = joined_end b i h
 
 -- what one statement rejects, or nothing
-pub reject_told : (b : Block) (i : ℕ) → i < length b.statements → (vote : VotedRange) → voted_by vote ≡ reject_ranges (get_or b.statements i no_statement)
+pub reject_told : (b : Block) (i : ℕ) → i < length b.statements → (vote : Option ranges.TransactionLocatorRange) → voted_by vote
+    ≡ reject_ranges (get_or b.statements i no_statement)
     → (r : Bytes) (next : StatementCursor) → next ≡ cursor_at r (i + 1) → (ranges_at true b i ≡ voted_by vote ++ ranges_at true b next.index) × OnwardIn b r i
     next
 unfolding ranges_at flatten OnwardIn cursor_at

@@ -9,28 +9,27 @@ ghost use Rattle.list_block_spans.specs.Ranges.{rejected_range, reject_ranges};
 ghost use Rattle.list_block_spans.specs.Answers.{voted_by};
 
 use record_statement::BaseStatement;
-use record_statement_votes::VotedRange;
 use types::{TransactionLocator, TransactionLocatorRange};
 
 // A rejected locator as a range. No vote reaches the last offset, so a reject of it counts for nothing.
-fn rejected_range(locator: TransactionLocator) -> VotedRange
+fn rejected_range(locator: TransactionLocator) -> Option<TransactionLocatorRange>
     ensures { voted_by result ≡ rejected_range (as_locator locator) }
 {
     if locator.offset == types::LAST_OFFSET {
-        return VotedRange::Nothing;
+        return None;
     }
-    VotedRange::Range(TransactionLocatorRange::one(locator))
+    Some(TransactionLocatorRange::one(locator))
 }
 
 // What a reject rejects: its first locator. Nothing else does.
-pub fn rejected(statement: BaseStatement) -> VotedRange
+pub fn rejected(statement: BaseStatement) -> Option<TransactionLocatorRange>
     ensures { (s : Bytes) → voted_by result ≡ reject_ranges (as_statement s statement) }
 {
     match statement {
-        BaseStatement::Share(_, _) => VotedRange::Nothing,
-        BaseStatement::Accept(_) => VotedRange::Nothing,
+        BaseStatement::Share(_, _) => None,
+        BaseStatement::Accept(_) => None,
         BaseStatement::Reject(l) => rejected_range(l),
         BaseStatement::RejectFor(l, _) => rejected_range(l),
-        BaseStatement::VoteRange(_) => VotedRange::Nothing,
+        BaseStatement::VoteRange(_) => None,
     }
 }

@@ -4,7 +4,7 @@
 ghost use Rattle.std.specs.Prelude.{◌≡◌, true, false};
 ghost use Rattle.base.specs.Checks.{answered};
 ghost use Rattle.final_spec.specs.Finality.{blocks_of};
-ghost use Rattle.list_after.specs.Answers.{as_maybe};
+ghost use Rattle.types.specs.Values.{as_maybe};
 ghost use Rattle.list_stretches_spec.specs.Stretches.{stretches};
 ghost use Rattle.list_stretches_spec.specs.Bulk.{given_after, stretch_room, bytes_after, final_stretches};
 ghost use Rattle.list_ordinary_spec.specs.Ordinary.{share_stretches};
@@ -15,12 +15,13 @@ ghost use Rattle.list_readings_spec.specs.Lists.{listing, listed_stretches};
 ghost use Rattle.list_walk.specs.Walk.{Ready};
 ghost use Rattle.list_stretch_bytes.specs.Answers.{as_stretches};
 
-use committee::{NewCommittee, Stake};
+use base::Refusal;
+use committee::Stake;
 use final_readings_spec::Reading;
-use list_after::MaybeLocator;
 use list_lanes::Wanted;
 use list_readings_spec::FinalList;
-use list_stretch_bytes::StretchesAnswer;
+use list_stretch_bytes::Stretches;
+use types::TransactionLocator;
 
 // ---- the question in bulk
 
@@ -33,8 +34,8 @@ pub fn fill_stretches(
     list: FinalList,
     reading: Reading,
     out: &mut [u8],
-    after: MaybeLocator,
-) -> StretchesAnswer
+    after: Option<TransactionLocator>,
+) -> Result<Stretches, Refusal>
     requires { Ready stakes.now total.0 store.now order.now }
     ensures result_value { as_stretches result ≡ answered (given_after (listing (is_ordinary list) (as_reading reading) stakes.now (blocks_of store.now)) (as_maybe after) (stretches stakes.now (blocks_of store.now) (listing (is_ordinary list) (as_reading reading) stakes.now (blocks_of store.now)) (stretch_room out.old) (as_maybe after))) }
     ensures out_after { out.new ≡ bytes_after (stretches stakes.now (blocks_of store.now) (listing (is_ordinary list) (as_reading reading) stakes.now (blocks_of store.now)) (stretch_room out.old) (as_maybe after)) out.old }
@@ -45,23 +46,24 @@ pub fn fill_stretches(
     list_stretches::fill(stakes, total, store, order, &sets, wanted, out, after)
 }
 
-// A list in a reading from the start or after a given locator on, as many stretches as the slice holds. The store is checked once for the call.
+// A list in a reading from the start or after a given locator on, as many stretches as the slice holds. The store is checked once for the call
+// (5, 10).
 pub fn list_stretches(
     stakes: &[u64],
     store: &[u8],
     list: FinalList,
     reading: Reading,
     out: &mut [u8],
-    after: MaybeLocator,
-) -> StretchesAnswer
+    after: Option<TransactionLocator>,
+) -> Result<Stretches, Refusal>
     ensures result_value { as_stretches result ≡ (listed_stretches (is_ordinary list) (as_reading reading) stakes.now store.now out.old (as_maybe after)).answer }
     ensures out_after { out.new ≡ (listed_stretches (is_ordinary list) (as_reading reading) stakes.now store.now out.old (as_maybe after)).out }
 {
-    let NewCommittee::Taken(total) = committee::new_committee(stakes) else {
-        return StretchesAnswer::Refused(5);
+    let Ok(total) = committee::new_committee(stakes) else {
+        return Err(Refusal::BrokenCommittee);
     };
     if !store_order::in_order(stakes, store) {
-        return StretchesAnswer::Refused(10);
+        return Err(Refusal::StoreNotInOrder);
     }
     let mut order = [0u64; types::MAX_BLOCKS];
     let count = final_block_votes::sorted_positions(store, &mut order);
@@ -83,8 +85,8 @@ pub fn final_stretches(
     stakes: &[u64],
     store: &[u8],
     out: &mut [u8],
-    after: MaybeLocator,
-) -> StretchesAnswer
+    after: Option<TransactionLocator>,
+) -> Result<Stretches, Refusal>
     ensures result_value { as_stretches result ≡ (share_stretches stakes.now store.now out.old (as_maybe after)).answer }
     ensures out_after { out.new ≡ (share_stretches stakes.now store.now out.old (as_maybe after)).out }
 {
@@ -96,8 +98,8 @@ pub fn wide_stretches(
     stakes: &[u64],
     store: &[u8],
     out: &mut [u8],
-    after: MaybeLocator,
-) -> StretchesAnswer
+    after: Option<TransactionLocator>,
+) -> Result<Stretches, Refusal>
     ensures result_value { as_stretches result ≡ (final_stretches stakes.now store.now out.old (as_maybe after)).answer }
     ensures out_after { out.new ≡ (final_stretches stakes.now store.now out.old (as_maybe after)).out }
 {
@@ -109,8 +111,8 @@ pub fn final_stretches_withdrawing(
     stakes: &[u64],
     store: &[u8],
     out: &mut [u8],
-    after: MaybeLocator,
-) -> StretchesAnswer
+    after: Option<TransactionLocator>,
+) -> Result<Stretches, Refusal>
     ensures result_value { as_stretches result ≡ (listed_stretches true withdrawing stakes.now store.now out.old (as_maybe after)).answer }
     ensures out_after { out.new ≡ (listed_stretches true withdrawing stakes.now store.now out.old (as_maybe after)).out }
 {
@@ -129,8 +131,8 @@ pub fn wide_stretches_withdrawing(
     stakes: &[u64],
     store: &[u8],
     out: &mut [u8],
-    after: MaybeLocator,
-) -> StretchesAnswer
+    after: Option<TransactionLocator>,
+) -> Result<Stretches, Refusal>
     ensures result_value { as_stretches result ≡ (listed_stretches false withdrawing stakes.now store.now out.old (as_maybe after)).answer }
     ensures out_after { out.new ≡ (listed_stretches false withdrawing stakes.now store.now out.old (as_maybe after)).out }
 {

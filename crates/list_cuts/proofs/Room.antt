@@ -7,16 +7,15 @@ use native.Mathlib.Omega.{arith}
 use lib.ListN.{length}
 use Rattle.base.specs.Le.{Bytes}
 use Rattle.record_spec.specs.Reference.{TransactionLocator}
-use Rattle.types.specs.Values.{as_locator}
+use Rattle.types.specs.Values.{as_locator, as_maybe}
 use Rattle.types.specs.declared.TransactionLocator as types
-use Rattle.list_after.specs.Answers.{as_maybe}
-use Rattle.list_after.specs.declared.MaybeLocator.TheVariants.{Locator}
 use Rattle.list_row_sort.specs.Rows.{row_at, key_of, SortedAs}
 use Rattle.list_row_sort.proofs.Tables.{inside_permuted}
 use Rattle.list_cuts.specs.Cuts.{Cuttable, CutAt, Held}
 use Rattle.list_cuts.specs.Room.{Halvable, Shorter, RoomMade}
 use Rattle.list_cuts.specs.declared.Window.{Window}
 use Rattle.list_cuts.proofs.Narrowing.{cut_held, cut_shorter, cut_short}
+use Rattle.std.specs.Prelude.{Some}
 
 module _ (s : Bytes) (u : List ℕ) (w : Window) (more : ℕ) (spare v : List ℕ) (can : Halvable s u spare w.n more) (sorted : SortedAs s w.n u v) where
   pub sorted_cuttable : length u / 3 - w.n < more → (at : ℕ) → at ≤ w.n / 2 → Cuttable s v w.n at
@@ -31,7 +30,7 @@ module _ (s : Bytes) (u : List ℕ) (w : Window) (more : ℕ) (spare v : List �
   module _ (at m : ℕ) (cut : CutAt s v w.n at m) where
     -- the table is cut
     pub room_cut : (l : types.TransactionLocator) → as_locator l ≡ key_of s (row_at v at) → 3 * (m + more) ≤ length v → RoomMade s u v w
-        (record { n = m; bound = Locator l }) more
+        (record { n = m; bound = Some l }) more
     unfolding as_maybe
     room_cut l e fit =
         record {

@@ -4,7 +4,7 @@ use Rattle.std.proofs.Math.Option.{Option}
 use Rattle.base.specs.Lists.{keep}
 use Rattle.base.specs.Le.{Bytes}
 use Rattle.record_spec.specs.Reference.{TransactionLocator, same_locator}
-use Rattle.list_after.specs.Answers.{as_maybe}
+use Rattle.types.specs.Values.{as_maybe}
 use Rattle.list_order.specs.Row.{is_after_best}
 use Rattle.list_row_sort.specs.Rows.{Row, rows_of, key_of, Sortable}
 use Rattle.list_cuts.specs.Cuts.{Held}

@@ -7,14 +7,13 @@ ghost use Rattle.list_row_sort.specs.Rows.{row_at, key_of};
 ghost use Rattle.list_cuts.specs.Cuts.{Cuttable, CutAt};
 ghost use Rattle.list_cuts.specs.Room.{Halvable, RoomMade};
 
-use list_after::MaybeLocator;
 use types::TransactionLocator;
 
 // The first rows of a table: how many, and up to which locator where there were more than fit.
 #[derive(Clone, Copy)]
 pub struct Window {
     pub n: usize,
-    pub bound: MaybeLocator,
+    pub bound: Option<TransactionLocator>,
 }
 
 // How many of the first n rows of a table, which ascend, are not after the key of the row at an index: by halving. All rows of that key are among them.
@@ -71,7 +70,7 @@ pub fn make_room(
         let locator = row_locator(store, edges, middle);
         return Window {
             n: m,
-            bound: MaybeLocator::Locator(locator),
+            bound: Some(locator),
         };
     }
     let low = n / 16;
@@ -79,6 +78,6 @@ pub fn make_room(
     let locator = row_locator(store, edges, low);
     Window {
         n: k,
-        bound: MaybeLocator::Locator(locator),
+        bound: Some(locator),
     }
 }

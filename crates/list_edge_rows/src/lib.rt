@@ -24,11 +24,9 @@ pub fn edge_rows(rows: &[u64], m: usize, place: usize, edges: &mut [u64], n: usi
     ensures { Edged rows.now edges.old edges.new m place n result }
 {
     let mut k = n;
-    let mut i: usize = 0;
-    while i < m {
+    for i in 0..m {
         put_edges(rows, i, place, edges, k);
         k += 2;
-        i += 1;
     }
     k
 }

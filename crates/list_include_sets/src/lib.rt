@@ -43,11 +43,9 @@ fn note_block(store: &[u8], order: &[u64], k: usize, sets: &mut [u64])
 {
     let at = order[k] as usize;
     let count = final_block_votes::include_count_at(store, at);
-    let mut j: usize = 0;
-    while j < count {
+    for j in 0..count {
         let include = final_block_votes::include_at(store, at, j);
         put(sets, k, final_block_votes::place_of(store, order, include));
-        j += 1;
     }
 }
 
@@ -59,12 +57,10 @@ fn same_before(sets: &[u64], k: usize) -> u64
     if k == 0 {
         return 0;
     }
-    let mut w: usize = 0;
-    while w < 16 {
+    for w in 0..16 {
         if sets[ROW * k + w] != sets[ROW * (k - 1) + w] {
             return 0;
         }
-        w += 1;
     }
     1
 }
@@ -74,11 +70,9 @@ pub fn note_includes(store: &[u8], order: &[u64], sets: &mut [u64])
     requires { (SortedStore store.now order.now × (length order.now ≤ 1024)) × ((17 * length order.now ≤ length sets.old) × ((x : ℕ) → get_or sets.old x 0 ≡ 0)) }
     ensures { Included store.now order.now sets.new (length order.now) }
 {
-    let mut k: usize = 0;
-    while k < order.len() {
+    for k in 0..order.len() {
         note_block(store, order, k, sets);
         sets[ROW * k + 16] = same_before(sets, k);
-        k += 1;
     }
 }
 
@@ -119,10 +113,8 @@ fn gather(sets: &[u64], k: usize, memo: &[u64]) -> AuthoritySet
     ensures { result ≡ gathered_to sets.now memo.now k 1024 }
 {
     let mut found = AuthoritySet::new();
-    let mut i: usize = 0;
-    while i < 16 {
+    for i in 0..16 {
         found = gather_word(sets, k, i, memo, found);
-        i += 1;
     }
     found
 }

@@ -15,8 +15,6 @@ use Rattle.types.specs.Values.{as_range}
 use Rattle.types.specs.declared.TransactionLocatorRange as ranges
 use Rattle.record_cursor.specs.Cursor.{cursor_at}
 use Rattle.record_cursor.specs.declared.StatementCursor.{StatementCursor}
-use Rattle.record_statement_votes.specs.declared.VotedRange.{VotedRange}
-use Rattle.record_statement_votes.specs.declared.VotedRange.TheVariants.{Range, Nothing}
 use Rattle.record_shared_ranges.specs.Step.{leading}
 use Rattle.list_block_spans.specs.Answers.{voted_by, OnwardIn}
 use Rattle.list_block_spans.specs.Ranges.{reject_ranges, ranges_at}
@@ -28,6 +26,7 @@ use Rattle.list_kind_ranges.specs.declared.RangeKind.TheVariants.{Votes, Rejects
 use Rattle.list_kind_ranges.specs.Next.{StandsAt, AllStand, NextIn}
 use Rattle.list_kind_ranges.proofs.Sharing.{silent_share, silent_none, leading_sharing, long_sharing, sharing_at}
 use Rattle.list_kind_ranges.proofs.Positions.{kind_inside, votes_stand, rejects_stand, own_stands}
+use Rattle.std.specs.Prelude.{None, Some, Option}
 
 -- as many statements
 own_onward : (b : Block) (i : ℕ) (r : Bytes) (next : StatementCursor) → OnwardIn (sharing b) r i next → OnwardIn b r i next
@@ -38,7 +37,8 @@ module _ (r : Bytes) (bytes : AllBytes r) (well : well_formed r ≡ true) (i : �
   abbrev st : Statement
   st = get_or (block_in r).statements i no_statement
 
-  module _ (vote : VotedRange) (at : ℕ) (next : StatementCursor) (here : at ≡ statement_start r i) (onward : next ≡ cursor_at r (i + 1)) where
+  module _ (vote : Option ranges.TransactionLocatorRange) (at : ℕ) (next : StatementCursor) (here : at ≡ statement_start r i)
+      (onward : next ≡ cursor_at r (i + 1)) where
     inside : at + 1 ≤ length r
     inside = omega (arith, kind_inside r bytes well i h)
 
@@ -65,7 +65,7 @@ module _ (r : Bytes) (bytes : AllBytes r) (well : well_formed r ≡ true) (i : �
         record { are = told.0; onward = told.1; inside = inside; stands = placed _ v (votes_stand r bytes well i h) }
 
     -- a statement that is no share, asked for shares
-    pub none_next : (kind : RangeKind) → is_shares kind ≡ true → is_share st ≡ false → vote ≡ Nothing → NextIn kind r i
+    pub none_next : (kind : RangeKind) → is_shares kind ≡ true → is_share st ≡ false → vote ≡ None → NextIn kind r i
         (record { vote = vote; at = at + 1; next = next })
     unfolding is_shares kind_ranges_at ranges_at voted_by AllStand sharing
     none_next Votes t e v = absurd (true≢false (sym t))
@@ -79,14 +79,14 @@ module _ (r : Bytes) (bytes : AllBytes r) (well : well_formed r ≡ true) (i : �
 
   pub shares_next : (kind : RangeKind) → is_rejects kind ≡ false → is_share st ≡ true → (q : ranges.TransactionLocatorRange) (next : StatementCursor) → as_range
       q ≡ new_range (block_in r).reference i next.index
-      → next ≡ cursor_at r (i + leading true (drop i (block_in r).statements)) → NextIn kind r i (record { vote = Range q; at = 0; next = next })
+      → next ≡ cursor_at r (i + leading true (drop i (block_in r).statements)) → NextIn kind r i (record { vote = Some q; at = 0; next = next })
   unfolding is_rejects kind_ranges_at ranges_at voted_by AllStand new_range sharing
   shares_next kind t e q next v onward = go kind t
     where
       stands : AllStand r 0 (as_range q ∷ [])
       stands = and (subst (λ (x : TransactionLocatorRange). StandsAt r 0 x.block) (sym v) (own_stands r well)) none_of
 
-      go : (kind : RangeKind) → is_rejects kind ≡ false → NextIn kind r i (record { vote = Range q; at = 0; next = next })
+      go : (kind : RangeKind) → is_rejects kind ≡ false → NextIn kind r i (record { vote = Some q; at = 0; next = next })
       go Rejects t = absurd (true≢false t)
       go Votes t =
           let told = run_told (block_in r) i h e r next onward in

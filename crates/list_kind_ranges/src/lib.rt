@@ -10,7 +10,6 @@ ghost use Rattle.list_kind_ranges.specs.Kinds.{is_rejects, is_shares};
 ghost use Rattle.list_kind_ranges.specs.Next.{NextIn};
 
 use record_cursor::StatementCursor;
-use record_statement_votes::VotedRange;
 use types::{BlockReference, TransactionLocatorRange};
 
 // Which ranges of a block: those for which it votes, those that it rejects, or its shares.
@@ -44,7 +43,7 @@ fn is_shares(kind: RangeKind) -> bool
 // The range that the statements at a place give, or none; where its reference stands in the record; and the place after them.
 #[derive(Clone, Copy)]
 pub struct NextRange {
-    pub vote: VotedRange,
+    pub vote: Option<TransactionLocatorRange>,
     pub at: usize,
     pub next: StatementCursor,
 }
@@ -75,12 +74,12 @@ pub fn next_range(
             offset_start_inclusive: cursor.index as u64,
             offset_end_exclusive: next.index as u64,
         };
-        let vote = VotedRange::Range(range);
+        let vote = Some(range);
         return NextRange { vote, at: 0, next };
     }
     let next = found.next;
     if is_shares(kind) {
-        let vote = VotedRange::Nothing;
+        let vote = None;
         return NextRange { vote, at, next };
     }
     let vote = record_statement_votes::voted_range(statement);

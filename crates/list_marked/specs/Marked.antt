@@ -1,5 +1,5 @@
 -- Machinery for the contracts of inner functions: what the marks say of every locator for which they are right. Assumes nothing: these are definitions.
-use Rattle.std.specs.Prelude.{ℕ, ◌≤◌, ◌<◌, ◌≡◌, Bool, true, false, List, eqb, length, get_or, take, drop}
+use Rattle.std.specs.Prelude.{ℕ, ◌≤◌, ◌<◌, ◌≡◌, Bool, true, false, List, eqb, length, get_or, take, drop, None, Some, Option}
 use Rattle.base.specs.Le.{Bytes}
 use Rattle.committee.specs.Committee.{Committee, total_stake}
 use Rattle.committee.specs.declared.Stake.{Stake}
@@ -19,7 +19,7 @@ use Rattle.list_walk.specs.Walk.{CertifyFlagged}
 use Rattle.list_lanes.specs.Lanes.{lane_ranges}
 use Rattle.list_lanes.specs.declared.Wanted.{Wanted}
 use Rattle.list_sweep.specs.Sweep.{MarksAt}
-use Rattle.list_marked.specs.declared.MarkedFinal as final
+use Rattle.final_certifying.specs.declared.Certifiers as certifiers
 
 -- the list that is asked for
 abbrev pub list_for : Wanted → Committee → List Block → Listing
@@ -49,9 +49,9 @@ pub record MayShow (w : Wanted) (marks : List ℕ) (n : ℕ) (r : Bool) : Type 0
   pub ordinary : is_ordinary w.list ≡ true → AnyMarked (take 1024 (drop 2048 marks)) n r
 
 -- the list shows every locator for which the marks are right, with these certifying blocks; or none of them
-unfoldable pub ShownAll : Wanted → Committee → Bytes → List ℕ → List ℕ → List ℕ → final.MarkedFinal → Type 0
-ShownAll w c s order marks flags (final.TheVariants.Shown f) =
+unfoldable pub ShownAll : Wanted → Committee → Bytes → List ℕ → List ℕ → List ℕ → Option certifiers.Certifiers → Type 0
+ShownAll w c s order marks flags (Some f) =
     (l : TransactionLocator) → MarksAt (lane_ranges w s order) marks l → ((list_for w c (blocks_of s)).shows l ≡ true) × CertifyFlagged (as_reading w.reading) c
     s order l flags f
-ShownAll w c s order marks flags final.TheVariants.Hidden = (l : TransactionLocator) → MarksAt (lane_ranges w s order) marks l → (list_for w c (blocks_of s)
+ShownAll w c s order marks flags None = (l : TransactionLocator) → MarksAt (lane_ranges w s order) marks l → (list_for w c (blocks_of s)
     ).shows l ≡ false

@@ -11,13 +11,6 @@ use committee_set::AuthoritySet;
 use final_certifying::Certifiers;
 use list_lanes::Wanted;
 
-// What the marks say of the list: it shows the locator, with these certifying blocks, or does not.
-#[derive(Clone, Copy)]
-pub enum MarkedFinal {
-    Shown(Certifiers),
-    Hidden,
-}
-
 // ---- who votes
 
 // The authors of the marked blocks.
@@ -26,14 +19,11 @@ fn marked_authors(store: &[u8], order: &[u64], marks: &[u64]) -> AuthoritySet
     ensures { MarkedIn store.now order.now marks.now (length order.now) result }
 {
     let mut authors = AuthoritySet::new();
-    let mut k: usize = 0;
-    while k < order.len() {
-        let i = k;
-        k += 1;
-        if marks[i] != 1 {
+    for k in 0..order.len() {
+        if marks[k] != 1 {
             continue;
         }
-        let author = store_entries::author_at(store, order[i] as usize);
+        let author = store_entries::author_at(store, order[k] as usize);
         authors = authors.insert(author);
     }
     authors
@@ -86,7 +76,8 @@ fn may_show(order: &[u64], wanted: Wanted, marks: &[u64]) -> bool
     list_ancestry::any_marked(&marks[2048..3072], order.len())
 }
 
-// Whether the list shows a locator with these marks: the walk over the blocks is made only where the authors of those who vote hold quorum.
+// What these marks say of the list: it shows the locator, with these certifying blocks, or does not. The walk over the blocks is made only where the
+// authors of those who vote hold quorum.
 pub fn shown_marks(
     stakes: &[u64],
     total: Stake,
@@ -96,20 +87,20 @@ pub fn shown_marks(
     wanted: Wanted,
     marks: &[u64],
     certified: &mut [u64],
-) -> MarkedFinal
+) -> Option<Certifiers>
     requires { Walkable stakes.now total store.now order.now sets.now marks.now certified.old }
     ensures { ShownAll wanted stakes.now store.now order.now marks.now certified.new result }
 {
     if !may_show(order, wanted, marks) {
-        return MarkedFinal::Hidden;
+        return None;
     }
     let authors = marked_authors(store, order, marks);
     if !committee::is_quorum(total, committee_set::stake_of(stakes, authors)) {
-        return MarkedFinal::Hidden;
+        return None;
     }
     let found = certify(stakes, total, store, order, sets, wanted, marks, certified);
     if !committee::is_quorum(total, committee_set::stake_of(stakes, found.authors)) {
-        return MarkedFinal::Hidden;
+        return None;
     }
-    MarkedFinal::Shown(found)
+    Some(found)
 }

@@ -4,13 +4,11 @@
 
 ghost use Rattle.std.specs.Prelude.{◌≡◌, ◌+◌, ◌≤◌, length};
 ghost use Rattle.record_spec.specs.Reference.{locator, locator_before};
-ghost use Rattle.types.specs.Values.{as_locator};
+ghost use Rattle.types.specs.Values.{as_locator, as_maybe};
 ghost use Rattle.record_reference_bytes.specs.Step.{reference_at};
 ghost use Rattle.final_spec.specs.NextFinal.{is_after};
-ghost use Rattle.list_after.specs.Answers.{as_maybe};
 ghost use Rattle.list_order.specs.Row.{is_after_best};
 
-use list_after::MaybeLocator;
 use types::TransactionLocator;
 
 // Whether the locator of the reference at a position and an offset comes after another.
@@ -30,22 +28,22 @@ fn comes_after(store: &[u8], at: usize, offset: u64, given: TransactionLocator) 
 }
 
 // Whether it comes after the given one; every locator comes after none.
-pub fn follows(store: &[u8], at: usize, offset: u64, last: MaybeLocator) -> bool
+pub fn follows(store: &[u8], at: usize, offset: u64, last: Option<TransactionLocator>) -> bool
     requires { at + 48 ≤ length store.now }
     ensures { result ≡ is_after (as_maybe last) (locator (reference_at store.now at) offset) }
 {
-    let MaybeLocator::Locator(given) = last else {
+    let Some(given) = last else {
         return true;
     };
     comes_after(store, at, offset, given)
 }
 
 // Whether it comes after the best so far; no locator comes after none.
-pub fn is_after_best(store: &[u8], at: usize, offset: u64, best: MaybeLocator) -> bool
+pub fn is_after_best(store: &[u8], at: usize, offset: u64, best: Option<TransactionLocator>) -> bool
     requires { at + 48 ≤ length store.now }
     ensures { result ≡ is_after_best (as_maybe best) (locator (reference_at store.now at) offset) }
 {
-    let MaybeLocator::Locator(given) = best else {
+    let Some(given) = best else {
         return false;
     };
     comes_after(store, at, offset, given)

@@ -5,27 +5,26 @@
 ghost use Rattle.std.specs.Prelude.{◌+◌, ◌*◌, ◌≤◌, ◌<◌, length};
 ghost use Rattle.record_spec.specs.Record.{block_in};
 ghost use Rattle.list_block_spans.specs.Answers.{voted_by};
-ghost use Rattle.list_after.specs.Answers.{as_maybe};
+ghost use Rattle.types.specs.Values.{as_maybe};
 ghost use Rattle.list_own_ranges.specs.Own.{Recorded, Roomy, OwnRanges};
 ghost use Rattle.list_own_ranges.specs.Step.{RangePut, Written};
 
-use list_after::MaybeLocator;
 use list_kind_ranges::RangeKind;
-use record_statement_votes::VotedRange;
+use types::{TransactionLocator, TransactionLocatorRange};
 
 // Puts a range after the first n rows of a table, if there is one and it is in reach.
 fn put_range(
     rows: &mut [u64],
     n: usize,
     at: usize,
-    vote: VotedRange,
-    last: MaybeLocator,
-    bound: MaybeLocator,
+    vote: Option<TransactionLocatorRange>,
+    last: Option<TransactionLocator>,
+    bound: Option<TransactionLocator>,
 ) -> usize
     requires { 3 * n + 3 ≤ length rows.old }
     ensures { RangePut (as_maybe last) (as_maybe bound) at (voted_by vote) rows.old rows.new n result }
 {
-    let VotedRange::Range(range) = vote else {
+    let Some(range) = vote else {
         return n;
     };
     if !list_reach::in_reach(last, bound, range) {
@@ -43,8 +42,8 @@ fn write_ranges(
     start: usize,
     rec: &[u8],
     kind: RangeKind,
-    last: MaybeLocator,
-    bound: MaybeLocator,
+    last: Option<TransactionLocator>,
+    bound: Option<TransactionLocator>,
     rows: &mut [u64],
 ) -> usize
     requires { Recorded store.now start rec.now × Roomy (block_in rec.now) rows.old }
@@ -70,8 +69,8 @@ pub fn own_ranges(
     start: usize,
     rec: &[u8],
     kind: RangeKind,
-    last: MaybeLocator,
-    bound: MaybeLocator,
+    last: Option<TransactionLocator>,
+    bound: Option<TransactionLocator>,
     rows: &mut [u64],
     spare: &mut [u64],
 ) -> usize

@@ -54,10 +54,8 @@ pub fn join_rows(store: &[u8], rows: &mut [u64], n: usize) -> usize
     ensures { RowsJoined store.now n rows.old rows.new result }
 {
     let mut m: usize = 0;
-    let mut i: usize = 0;
-    while i < n {
+    for i in 0..n {
         m = join_row(store, rows, m, i);
-        i += 1;
     }
     m
 }

@@ -2,15 +2,17 @@
 #![tactic(auto)]
 
 ghost use Rattle.std.specs.Prelude.{◌≡◌};
-ghost use Rattle.types.specs.Values.{as_range};
-ghost use Rattle.list_after.specs.Answers.{as_maybe};
+ghost use Rattle.types.specs.Values.{as_range, as_maybe};
 ghost use Rattle.list_reach.specs.Reach.{in_reach};
 
-use list_after::MaybeLocator;
 use types::{TransactionLocator, TransactionLocatorRange};
 
 // Whether a range is not empty, ends after the last locator and does not start after the bound: one that covers a locator of the window is such.
-pub fn in_reach(last: MaybeLocator, bound: MaybeLocator, range: TransactionLocatorRange) -> bool
+pub fn in_reach(
+    last: Option<TransactionLocator>,
+    bound: Option<TransactionLocator>,
+    range: TransactionLocatorRange,
+) -> bool
     ensures { result ≡ in_reach (as_maybe last) (as_maybe bound) (as_range range) }
 {
     let block = range.block;
@@ -22,7 +24,7 @@ pub fn in_reach(last: MaybeLocator, bound: MaybeLocator, range: TransactionLocat
     if !list_after::is_after(last, TransactionLocator { block, offset: end }) {
         return false;
     }
-    let MaybeLocator::Locator(best) = bound else {
+    let Some(best) = bound else {
         return true;
     };
     !types::locator_before(

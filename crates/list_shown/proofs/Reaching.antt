@@ -47,9 +47,9 @@ use Rattle.list_sweep.proofs.Sweeping.{le_lt}
 use Rattle.list_sweep_start.proofs.Beginning.{next_before, next_least}
 use Rattle.list_sweep_start.specs.Begin.{Bare, BegunAt}
 use Rattle.list_marked.specs.Marked.{list_for, ShownAll}
-use Rattle.list_marked.specs.declared.MarkedFinal.TheVariants.{Shown, Hidden}
 use Rattle.list_marked.proofs.Lanes.{stored_at, vote_mark}
 use Rattle.list_shown.specs.Shown.{Lent, Reaching, AllAlike, FoundHere}
+use Rattle.std.specs.Prelude.{None, Some}
 
 -- the marks are right where the sweep stands
 pub here_marks : (lanes : Lanes) (s : Bytes) (t marks : List ℕ) (v : sweep.Sweep) → Stands lanes s t marks v → MarksAt lanes marks (as_locator v.here)
@@ -171,7 +171,7 @@ module _ (w : Wanted) (c : Committee) (s : Bytes) (order : List ℕ) (h₀ : Tra
 
   -- shown
   pub shown_here : (t marks flags : List ℕ) (at : sweep.Sweep) (f : Certifiers) → Stands (lane_ranges w s order) s t marks at → Reached (as_locator at.here)
-      → ShownAll w c s order marks flags (Shown f)
+      → ShownAll w c s order marks flags (Some f)
       → FoundHere w c s order h₀ t marks flags (record { sweep = at; found = f })
   unfolding ShownAll AllAlike
   shown_here t marks flags at f st r all =
@@ -183,7 +183,7 @@ module _ (w : Wanted) (c : Committee) (s : Bytes) (order : List ℕ) (h₀ : Tra
         is = λ last q. found_is w c s order last (as_locator at.here) (r last q) x.0;
       }
 
-  module _ (marks flags : List ℕ) (at : sweep.Sweep) (r : Reached (as_locator at.here)) (hid : ShownAll w c s order marks flags Hidden) where
+  module _ (marks flags : List ℕ) (at : sweep.Sweep) (r : Reached (as_locator at.here)) (hid : ShownAll w c s order marks flags None) where
     pub hidden_on : (t' marks' : List ℕ) (v : sweep.Sweep) → MovedTo (lane_ranges w s order) s marks t' marks' (some (as_locator at.here)) v → Reached
         (as_locator v.here)
     unfolding ShownAll

@@ -1,5 +1,5 @@
 -- Machinery for the contracts of inner functions: the next locator that a list shows, by a sweep over the edges. Assumes nothing: these are definitions.
-use Rattle.std.specs.Prelude.{ℕ, ◌≡◌, true, false, List}
+use Rattle.std.specs.Prelude.{ℕ, ◌≡◌, true, false, List, None, Some}
 use Rattle.std.proofs.Math.Option.{Option, none, some}
 use Rattle.base.specs.Le.{Bytes}
 use Rattle.committee.specs.Committee.{Committee}
@@ -16,7 +16,7 @@ use Rattle.list_lanes.specs.declared.Wanted.{Wanted}
 use Rattle.list_sweep.specs.Sweep.{MarksAt, Stands, Room}
 use Rattle.list_marked.specs.Marked.{list_for, Walkable}
 use Rattle.list_shown.specs.declared.FoundStretch as found
-use Rattle.list_shown.specs.declared.NextShown as next
+use Rattle.std.specs.declared.option.Option as code
 
 -- what the list is lent: for the walk and for the sweep
 pub record Lent (c : Committee) (total : Stake) (s : Bytes) (order sets t marks flags : List ℕ) : Type 0 where
@@ -43,7 +43,7 @@ pub record FoundHere (w : Wanted) (c : Committee) (s : Bytes) (order : List ℕ)
   pub right : CertifyFlagged (as_reading w.reading) c s order (as_locator f.sweep.here) flags f.found
   pub is : (last : Option TransactionLocator) → Reaching w c s last h → (list_for w c (blocks_of s)).next last ≡ some (as_locator f.sweep.here)
 
-unfoldable pub NextFound : Wanted → Committee → Bytes → List ℕ → TransactionLocator → List ℕ → List ℕ → List ℕ → next.NextShown → Type 0
-NextFound w c s order h t marks flags (next.TheVariants.At f) = FoundHere w c s order h t marks flags f
-NextFound w c s order h t marks flags next.TheVariants.Nothing = (last : Option TransactionLocator) → Reaching w c s last h → (list_for w c (blocks_of s)).next
+unfoldable pub NextFound : Wanted → Committee → Bytes → List ℕ → TransactionLocator → List ℕ → List ℕ → List ℕ → code.Option found.FoundStretch → Type 0
+NextFound w c s order h t marks flags (Some f) = FoundHere w c s order h t marks flags f
+NextFound w c s order h t marks flags None = (last : Option TransactionLocator) → Reaching w c s last h → (list_for w c (blocks_of s)).next
     last ≡ none

@@ -3,8 +3,7 @@
 
 ghost use Rattle.std.specs.Prelude.{◌≡◌, length};
 ghost use Rattle.final_spec.specs.Finality.{blocks_of};
-ghost use Rattle.types.specs.Values.{as_locator};
-ghost use Rattle.list_after.specs.Answers.{as_maybe};
+ghost use Rattle.types.specs.Values.{as_locator, as_maybe};
 ghost use Rattle.list_include_sets.specs.Sets.{Included};
 ghost use Rattle.list_walk.specs.Walk.{Ready};
 ghost use Rattle.list_lanes.specs.Lanes.{lane_ranges};
@@ -14,10 +13,9 @@ ghost use Rattle.list_shown.specs.Shown.{Lent, NextFound};
 
 use committee::Stake;
 use final_certifying::Certifiers;
-use list_after::MaybeLocator;
 use list_lanes::Wanted;
-use list_marked::MarkedFinal;
-use list_sweep::{Onward, Sweep};
+use list_sweep::Sweep;
+use types::TransactionLocator;
 
 // The list that is asked for, under a total stake, and where the sweep stands.
 #[derive(Clone, Copy)]
@@ -34,12 +32,6 @@ pub struct FoundStretch {
     pub found: Certifiers,
 }
 
-#[derive(Clone, Copy)]
-pub enum NextShown {
-    At(FoundStretch),
-    Nothing,
-}
-
 // Goes on from stop to stop to the first locator that the list shows, from where the sweep stands on. Where there is one, a word for each block says
 // whether it certifies it.
 pub fn next_shown(
@@ -51,7 +43,7 @@ pub fn next_shown(
     edges: &mut [u64],
     marks: &mut [u64],
     certified: &mut [u64],
-) -> NextShown
+) -> Option<FoundStretch>
     requires { Lent stakes.now course.total store.now order.now sets.now edges.old marks.old certified.old × Stands (lane_ranges course.wanted store.now order.now) store.now edges.old marks.old course.sweep }
     ensures { NextFound course.wanted stakes.now store.now order.now (as_locator course.sweep.here) edges.new marks.new certified.new result }
 {
@@ -62,18 +54,14 @@ pub fn next_shown(
         let shown = list_marked::shown_marks(
             stakes, total, store, order, sets, wanted, marks, certified,
         );
-        if let MarkedFinal::Shown(found) = shown {
-            return NextShown::At(FoundStretch { sweep: at, found });
+        if let Some(found) = shown {
+            return Some(FoundStretch { sweep: at, found });
         }
-        let next = list_sweep::advance(store, order, wanted, at, edges, marks);
-        let Onward::At(stop) = next else {
-            return NextShown::Nothing;
-        };
-        at = stop;
+        at = list_sweep::advance(store, order, wanted, at, edges, marks)?;
     }
 }
 
-// The least locator of the list after a given one, or from the start.
+// The least locator of the list after a given one, or from the start; or there is none.
 pub fn next_from(
     stakes: &[u64],
     total: Stake,
@@ -81,24 +69,21 @@ pub fn next_from(
     order: &[u64],
     sets: &[u64],
     wanted: Wanted,
-    after: MaybeLocator,
-) -> MaybeLocator
+    after: Option<TransactionLocator>,
+) -> Option<TransactionLocator>
     requires { Ready stakes.now total.0 store.now order.now × Included store.now order.now sets.now (length order.now) }
     ensures { as_maybe result ≡ (list_for wanted stakes.now (blocks_of store.now)).next (as_maybe after) }
 {
     let mut edges = [0u64; list_window::TABLE_WORDS];
     let mut marks = [0u64; list_lanes::LANES];
-    let begun = list_sweep_start::begin(store, order, wanted, after, &mut edges, &mut marks);
-    let Onward::At(sweep) = begun else {
-        return MaybeLocator::Nothing;
-    };
+    let sweep = list_sweep_start::begin(store, order, wanted, after, &mut edges, &mut marks)?;
     let course = Course {
         total,
         wanted,
         sweep,
     };
     let mut certified = [0u64; types::MAX_BLOCKS];
-    let next = next_shown(
+    let found = next_shown(
         stakes,
         store,
         order,
@@ -107,11 +92,7 @@ pub fn next_from(
         &mut edges,
         &mut marks,
         &mut certified,
-    );
-    let NextShown::At(f) = next else {
-        return MaybeLocator::Nothing;
-    };
-    let at = f.sweep;
-    let here = at.here;
-    MaybeLocator::Locator(here)
+    )?;
+    let at = found.sweep;
+    Some(at.here)
 }

@@ -38,13 +38,12 @@ pub fn write_stretch(
 
 // ---- the question in bulk
 
-// How many stretches were written, and whether more locators of the list follow; or the refusal number.
+// How many stretches were written, and whether more locators of the list follow.
 #[derive(Clone, Copy)]
-pub enum StretchesAnswer {
+pub enum Stretches {
     // no locator follows them
     Last(u64),
     More(u64),
-    Refused(u64),
 }
 
 // What the bytes of a stretch are.

@@ -33,10 +33,10 @@ use Rattle.list_lanes.specs.Lanes.{Lanes, lane_ranges}
 use Rattle.list_lanes.specs.declared.Wanted.{Wanted}
 use Rattle.list_sweep.specs.Sweep.{MarksAt}
 use Rattle.list_marked.specs.Marked.{list_for, ShownAll}
-use Rattle.list_marked.specs.declared.MarkedFinal.TheVariants.{Shown}
 use Rattle.final_certifying.specs.declared.Certifiers.{Certifiers}
 use Rattle.list_marked.proofs.Lanes.{stored_at}
 use Rattle.list_shown.specs.Shown.{AllAlike}
+use Rattle.std.specs.Prelude.{Some}
 
 -- ---- the words say whether the certifying blocks are the same
 
@@ -193,7 +193,7 @@ module _ (w : Wanted) (c : Committee) (s : Bytes) (order : List ℕ) (o : Sorted
         (same_self flags (length order)),
   )
 
-  module _ (marks other : List ℕ) (f : Certifiers) (all : ShownAll w c s order marks other (Shown f)) where
+  module _ (marks other : List ℕ) (f : Certifiers) (all : ShownAll w c s order marks other (Some f)) where
     pub alike_next : SameWords flags other (length order) true → Alike w c s order l marks
     unfolding ShownAll
     alike_next same m r = let y = all m r in (y.0, words_same (is_ordinary w.list) (as_reading w.reading) c s order o l m flags other own y.1.1 same)

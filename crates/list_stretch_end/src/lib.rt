@@ -7,9 +7,8 @@ ghost use Rattle.list_sweep.specs.Sweep.{Stands};
 ghost use Rattle.list_shown.specs.Shown.{Lent, AllAlike};
 ghost use Rattle.list_stretch_end.specs.End.{RunOn};
 
-use list_marked::MarkedFinal;
 use list_shown::Course;
-use list_sweep::{Onward, Sweep};
+use list_sweep::Sweep;
 
 // From a locator that the list shows, with its certifying blocks in words, to the end of its stretch: from stop to stop while the list shows the locator
 // there and the same blocks certify it.
@@ -32,13 +31,13 @@ pub fn run_on(
     let mut at = course.sweep;
     loop {
         let next = list_sweep::advance(store, order, wanted, at, edges, marks);
-        let Onward::At(stop) = next else {
+        let Some(stop) = next else {
             return at; // never: what is shown ends somewhere
         };
         let shown = list_marked::shown_marks(
             stakes, total, store, order, sets, wanted, marks, &mut other,
         );
-        let MarkedFinal::Shown(_) = shown else {
+        let Some(_) = shown else {
             return stop;
         };
         if !list_walk::same_words(certified, &other, order.len()) {

@@ -4,8 +4,7 @@
 ghost use Rattle.std.specs.Prelude.{◌≡◌, List, ℕ, length};
 ghost use Rattle.base.specs.Checks.{answered};
 ghost use Rattle.final_spec.specs.Finality.{blocks_of};
-ghost use Rattle.types.specs.Values.{as_locator};
-ghost use Rattle.list_after.specs.Answers.{as_maybe};
+ghost use Rattle.types.specs.Values.{as_locator, as_maybe};
 ghost use Rattle.list_stretches_spec.specs.Stretches.{stretches};
 ghost use Rattle.list_stretches_spec.specs.Bulk.{given_after, stretch_room, bytes_after};
 ghost use Rattle.list_stretch_bytes.specs.Answers.{as_stretches};
@@ -17,12 +16,12 @@ ghost use Rattle.list_marked.specs.Marked.{list_for};
 ghost use Rattle.list_shown.specs.Shown.{Lent};
 ghost use Rattle.list_stretches.specs.Listed.{FilledFrom};
 
+use base::Refusal;
 use committee::Stake;
-use list_after::MaybeLocator;
 use list_lanes::Wanted;
-use list_shown::{Course, NextShown};
-use list_stretch_bytes::StretchesAnswer;
-use list_sweep::Onward;
+use list_shown::Course;
+use list_stretch_bytes::Stretches;
+use types::TransactionLocator;
 
 // Writes stretches from where the sweep stands on until the slice is full or no locator of the list follows.
 fn fill_from(
@@ -34,7 +33,7 @@ fn fill_from(
     edges: &mut [u64],
     marks: &mut [u64],
     out: &mut [u8],
-) -> StretchesAnswer
+) -> Result<Stretches, Refusal>
     requires { (((flags : List ℕ) → length flags ≡ 1024 → Lent stakes.now course.total store.now order.now sets.now edges.old marks.old flags)) × Stands (lane_ranges course.wanted store.now order.now) store.now edges.old marks.old course.sweep }
     ensures { FilledFrom course.wanted stakes.now store.now (as_locator course.sweep.here) out.old out.new result }
 {
@@ -60,11 +59,11 @@ fn fill_from(
             marks,
             &mut certified,
         );
-        let NextShown::At(f) = next else {
-            return StretchesAnswer::Last(n as u64);
+        let Some(f) = next else {
+            return Ok(Stretches::Last(n as u64));
         };
         if n == room {
-            return StretchesAnswer::More(n as u64); // the slice is full
+            return Ok(Stretches::More(n as u64)); // the slice is full
         }
         let found = f.found;
         let stake = committee_set::stake_of(stakes, found.authors);
@@ -93,8 +92,8 @@ pub fn fill(
     sets: &[u64],
     wanted: Wanted,
     out: &mut [u8],
-    after: MaybeLocator,
-) -> StretchesAnswer
+    after: Option<TransactionLocator>,
+) -> Result<Stretches, Refusal>
     requires { Ready stakes.now total.0 store.now order.now × Included store.now order.now sets.now (length order.now) }
     ensures result_value { as_stretches result ≡ answered (given_after (list_for wanted stakes.now (blocks_of store.now)) (as_maybe after) (stretches stakes.now (blocks_of store.now) (list_for wanted stakes.now (blocks_of store.now)) (stretch_room out.old) (as_maybe after))) }
     ensures out_after { out.new ≡ bytes_after (stretches stakes.now (blocks_of store.now) (list_for wanted stakes.now (blocks_of store.now)) (stretch_room out.old) (as_maybe after)) out.old }
@@ -102,8 +101,8 @@ pub fn fill(
     let mut edges = [0u64; list_window::TABLE_WORDS];
     let mut marks = [0u64; list_lanes::LANES];
     let begun = list_sweep_start::begin(store, order, wanted, after, &mut edges, &mut marks);
-    let Onward::At(sweep) = begun else {
-        return StretchesAnswer::Last(0);
+    let Some(sweep) = begun else {
+        return Ok(Stretches::Last(0));
     };
     let course = Course {
         total,

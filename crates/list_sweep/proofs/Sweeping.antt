@@ -19,7 +19,7 @@ use Rattle.base.proofs.Lists.{Every, keep_append}
 use Rattle.record_spec.specs.Reference.{TransactionLocator, TransactionLocatorRange, locator, locator_before}
 use Rattle.record_spec.proofs.References.{locator_irrefl, locator_trans, not_before_trans}
 use Rattle.final_spec.specs.NextFinal.{is_after}
-use Rattle.list_after.specs.Answers.{as_maybe}
+use Rattle.types.specs.Values.{as_maybe}
 use Rattle.list_order.specs.Row.{is_after_best}
 use Rattle.list_row_sort.specs.Rows.{Row, row_at, rows_from, rows_of, key_of, row_before}
 use Rattle.list_row_sort.proofs.Order.{row_irrefl}

@@ -1,12 +1,11 @@
 -- Machinery for the contracts of inner functions: edges passed, and where the sweep goes on. Assumes nothing: these are definitions.
-use Rattle.std.specs.Prelude.{ℕ, ◌*◌, ◌≤◌, ◌<◌, ◌≡◌, Bool, true, false, List, length}
+use Rattle.std.specs.Prelude.{ℕ, ◌*◌, ◌≤◌, ◌<◌, ◌≡◌, Bool, true, false, List, length, None, Some}
 use Rattle.std.proofs.Math.Option.{Option}
 use Rattle.base.specs.Lists.{◌∈◌}
 use Rattle.base.specs.Le.{Bytes}
 use Rattle.record_spec.specs.Reference.{TransactionLocator, locator_before}
-use Rattle.types.specs.Values.{as_locator}
+use Rattle.types.specs.Values.{as_locator, as_maybe}
 use Rattle.final_spec.specs.NextFinal.{is_after}
-use Rattle.list_after.specs.Answers.{as_maybe}
 use Rattle.list_row_sort.specs.Rows.{row_at, key_of, row_before, Inside}
 use Rattle.list_edge_rows.specs.Edges.{place_of}
 use Rattle.list_reach.specs.Reach.{From}
@@ -14,7 +13,7 @@ use Rattle.list_lanes.specs.Lanes.{Lanes}
 use Rattle.list_cuts.specs.declared.Window.{Window}
 use Rattle.list_sweep.specs.Sweep.{MarksAt, Swept, Standing, Stands, edge_locators}
 use Rattle.list_sweep.specs.declared.Sweep as sweep
-use Rattle.list_sweep.specs.declared.Onward as onward
+use Rattle.std.specs.declared.option.Option as code
 
 -- what passing rows asks: n rows whose references stand in the store, of lanes that have a mark
 pub record Passable (s : Bytes) (t marks : List ℕ) (n at : ℕ) : Type 0 where
@@ -57,10 +56,10 @@ pub record MovedTo (lanes : Lanes) (s : Bytes) (marks t' marks' : List ℕ) (her
   pub quiet : (l : TransactionLocator) → From here l → locator_before l (as_locator r.here) ≡ true → MarksAt lanes marks l
 
 -- no edge follows: the marks are right from here on
-unfoldable pub Moved : Lanes → Bytes → List ℕ → List ℕ → List ℕ → Option TransactionLocator → onward.Onward → Type 0
-Moved lanes s marks t' marks' here (onward.TheVariants.At r) = MovedTo lanes s marks t' marks' here r
-Moved lanes s marks t' marks' here onward.TheVariants.End = (l : TransactionLocator) → From here l → MarksAt lanes marks l
+unfoldable pub Moved : Lanes → Bytes → List ℕ → List ℕ → List ℕ → Option TransactionLocator → code.Option sweep.Sweep → Type 0
+Moved lanes s marks t' marks' here (Some r) = MovedTo lanes s marks t' marks' here r
+Moved lanes s marks t' marks' here None = (l : TransactionLocator) → From here l → MarksAt lanes marks l
 
-unfoldable pub Gone : Lanes → Bytes → List ℕ → List ℕ → List ℕ → List ℕ → Window → ℕ → onward.Onward → Type 0
+unfoldable pub Gone : Lanes → Bytes → List ℕ → List ℕ → List ℕ → List ℕ → Window → ℕ → code.Option sweep.Sweep → Type 0
 Gone lanes s t marks t' marks' w at r = (here : Option TransactionLocator) → Standing lanes s t marks w.n (as_maybe w.bound) at here → Moved lanes s
     marks t' marks' here r

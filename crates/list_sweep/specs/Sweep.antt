@@ -5,9 +5,8 @@ use Rattle.std.proofs.Math.Option.{Option, some}
 use Rattle.base.specs.Lists.{keep, count_from}
 use Rattle.base.specs.Le.{Bytes}
 use Rattle.record_spec.specs.Reference.{TransactionLocator, locator, locator_before}
-use Rattle.types.specs.Values.{as_locator}
+use Rattle.types.specs.Values.{as_locator, as_maybe}
 use Rattle.final_block_votes.specs.Walk.{SortedStore}
-use Rattle.list_after.specs.Answers.{as_maybe}
 use Rattle.list_order.specs.Row.{is_after_best}
 use Rattle.list_row_sort.specs.Rows.{row_at, rows_of, key_of}
 use Rattle.list_edge_rows.specs.Edges.{of_place, last_begins}

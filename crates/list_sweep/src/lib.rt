@@ -4,15 +4,13 @@
 
 ghost use Rattle.std.specs.Prelude.{◌≡◌, ℕ, ◌+◌, ◌*◌, ◌/◌, ◌%◌, ◌≤◌, ◌<◌, length, get_or, set};
 ghost use Rattle.std.proofs.Math.Option.{some};
-ghost use Rattle.types.specs.Values.{as_locator};
+ghost use Rattle.types.specs.Values.{as_locator, as_maybe};
 ghost use Rattle.final_block_votes.specs.Walk.{SortedStore};
-ghost use Rattle.list_after.specs.Answers.{as_maybe};
 ghost use Rattle.list_row_sort.specs.Rows.{row_at, key_of};
 ghost use Rattle.list_lanes.specs.Lanes.{lane_ranges};
 ghost use Rattle.list_sweep.specs.Sweep.{Room, Stands, MarksAt};
 ghost use Rattle.list_sweep.specs.Step.{Passable, Passed, Ready, StopPassed, Goes, Gone, Moved};
 
-use list_after::MaybeLocator;
 use list_cuts::Window;
 use list_lanes::Wanted;
 use types::TransactionLocator;
@@ -21,16 +19,9 @@ use types::TransactionLocator;
 #[derive(Clone, Copy)]
 pub struct Sweep {
     pub n: usize,
-    pub bound: MaybeLocator,
+    pub bound: Option<TransactionLocator>,
     pub at: usize,
     pub here: TransactionLocator,
-}
-
-// The next place where an edge is, or none.
-#[derive(Clone, Copy)]
-pub enum Onward {
-    At(Sweep),
-    End,
 }
 
 // ---- passing edges
@@ -80,7 +71,7 @@ fn pass_stop(store: &[u8], edges: &[u64], window: Window, at: usize, marks: &mut
 
 // ---- from window to window
 
-// Goes to the next locator at which an edge is: in what is left of a window, or in the one after it.
+// Goes to the next locator at which an edge is, or there is none: in what is left of a window, or in the one after it.
 pub fn go_on(
     store: &[u8],
     order: &[u64],
@@ -89,27 +80,25 @@ pub fn go_on(
     at: usize,
     edges: &mut [u64],
     marks: &mut [u64],
-) -> Onward
+) -> Option<Sweep>
     requires { Room store.now order.now edges.old marks.old × Goes (lane_ranges wanted store.now order.now) store.now edges.old marks.old window at }
     ensures { Gone (lane_ranges wanted store.now order.now) store.now edges.old marks.old edges.new marks.new window at result }
 {
     if at < window.n {
         let sweep = pass_stop(store, edges, window, at, marks);
-        return Onward::At(sweep);
+        return Some(sweep);
     }
     let last = window.bound;
-    let MaybeLocator::Locator(_) = last else {
-        return Onward::End;
-    };
+    last?; // no row was left out
     let next = list_window::gather(store, order, wanted, last, edges);
     if next.n == 0 {
-        return Onward::End;
+        return None;
     }
     let sweep = pass_stop(store, edges, next, 0, marks);
-    Onward::At(sweep)
+    Some(sweep)
 }
 
-// Goes to the next locator at which an edge is.
+// Goes to the next locator at which an edge is, or there is none.
 pub fn advance(
     store: &[u8],
     order: &[u64],
@@ -117,7 +106,7 @@ pub fn advance(
     sweep: Sweep,
     edges: &mut [u64],
     marks: &mut [u64],
-) -> Onward
+) -> Option<Sweep>
     requires { Room store.now order.now edges.old marks.old × Stands (lane_ranges wanted store.now order.now) store.now edges.old marks.old sweep }
     ensures { Moved (lane_ranges wanted store.now order.now) store.now marks.old edges.new marks.new (some (as_locator sweep.here)) result }
 {

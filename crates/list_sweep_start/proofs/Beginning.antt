@@ -15,10 +15,9 @@ use Rattle.base.proofs.Tests.{not_both, holds_or_not, fails}
 use Rattle.record_spec.specs.Reference.{BlockReference, TransactionLocator, locator, locator_before, reference_before}
 use Rattle.record_spec.proofs.References.{Precedes, by_block, by_offset, precedes, is_before, reference_irrefl, reference_trans, locator_irrefl, locator_trans}
 use Rattle.record_spec.proofs.References.{locator_total, not_before_trans}
-use Rattle.types.specs.Values.{as_locator}
+use Rattle.types.specs.Values.{as_locator, as_maybe}
 use Rattle.types.specs.declared.TransactionLocator as types
 use Rattle.final_spec.specs.NextFinal.{is_after}
-use Rattle.list_after.specs.Answers.{as_maybe}
 use Rattle.list_order.specs.Row.{is_after_best}
 use Rattle.list_row_sort.specs.Rows.{row_at, rows_from, rows_of, key_of, row_before}
 use Rattle.list_row_sort.proofs.Tables.{row_in, sorted_at}
@@ -31,10 +30,10 @@ use Rattle.list_window.proofs.Ahead.{row_ahead, bound_ahead}
 use Rattle.list_sweep.specs.Sweep.{MarksAt, Clear, Swept, Standing}
 use Rattle.list_sweep.specs.Step.{Moved}
 use Rattle.list_sweep.specs.declared.Sweep as sweep
-use Rattle.list_sweep.specs.declared.Onward.{Onward}
-use Rattle.list_sweep.specs.declared.Onward.TheVariants.{At, End}
 use Rattle.list_sweep.proofs.Sweeping.{lt_le, le_lt, marks_right}
 use Rattle.list_sweep_start.specs.Begin.{just_after, Stood, none_there, some_there, StoodAfter, BegunAt, Begun}
+use Rattle.std.specs.Prelude.{None, Some}
+use Rattle.std.specs.declared.option.Option as code
 
 -- ---- nothing stands between a locator and the one just after it
 
@@ -86,10 +85,11 @@ module _ (lanes : Lanes) (s : Bytes) (t marks : List ℕ) (w : Window) where
       none_some : (h : TransactionLocator) → ◌≡◌ {A = Option TransactionLocator} none (some h) → ⊥
       none_some h e = none-ne-some h e
 
-  pub start_begun : ((k : ℕ) → get_or marks k 0 ≡ 0) → (t' marks' : List ℕ) (r : Onward) → length marks ≡ 3072 → Moved lanes s marks t' marks' none r → Begun
+  pub start_begun : ((k : ℕ) → get_or marks k 0 ≡ 0) → (t' marks' : List ℕ) (r : code.Option sweep.Sweep) → length marks ≡ 3072
+      → Moved lanes s marks t' marks' none r → Begun
       lanes s t' marks' none r
   unfolding Moved Begun MarksAt From is_after
-  start_begun z t' marks' (At r) long m =
+  start_begun z t' marks' (Some r) long m =
       record {
         long = m.long ∙ long;
         stands = m.stands;
@@ -97,7 +97,7 @@ module _ (lanes : Lanes) (s : Bytes) (t marks : List ℕ) (w : Window) where
         later = λ h. refl;
         bare = λ l a b k h. sym (m.quiet l tt b k h) ∙ rw (z k);
       }
-  start_begun z t' marks' End long m = λ l a k h. sym (m l tt k h) ∙ rw (z k)
+  start_begun z t' marks' None long m = λ l a k h. sym (m l tt k h) ∙ rw (z k)
 
   -- ---- after a given locator
 

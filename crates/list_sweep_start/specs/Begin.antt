@@ -1,5 +1,5 @@
 -- Machinery for the contracts of inner functions: where a sweep begins. Assumes nothing: these are definitions.
-use Rattle.std.specs.Prelude.{ℕ, ◌+◌, ◌*◌, ◌≤◌, ◌<◌, ◌≡◌, true, false, List, length}
+use Rattle.std.specs.Prelude.{ℕ, ◌+◌, ◌*◌, ◌≤◌, ◌<◌, ◌≡◌, true, false, List, length, None, Some}
 use Rattle.std.proofs.Math.Option.{Option}
 use Rattle.base.specs.Le.{Bytes}
 use Rattle.base.proofs.Lists.{Every}
@@ -16,7 +16,7 @@ use Rattle.list_cuts.specs.declared.Window.{Window}
 use Rattle.list_sweep.specs.Sweep.{Stands}
 use Rattle.list_sweep.specs.Step.{Passable, Passed}
 use Rattle.list_sweep.specs.declared.Sweep as sweep
-use Rattle.list_sweep.specs.declared.Onward as onward
+use Rattle.std.specs.declared.option.Option as code
 
 -- m rows of a table that are ranges
 pub record ProperRows (s : Bytes) (t : List ℕ) (m : ℕ) : Type 0 where
@@ -55,6 +55,6 @@ pub record BegunAt (lanes : Lanes) (s : Bytes) (t marks : List ℕ) (after : Opt
   pub later : (as_locator r.here).offset < 18446744073709551615 → is_after after (as_locator r.here) ≡ true
   pub bare : (m : TransactionLocator) → is_after after m ≡ true → locator_before m (as_locator r.here) ≡ true → Bare lanes m
 
-unfoldable pub Begun : Lanes → Bytes → List ℕ → List ℕ → Option TransactionLocator → onward.Onward → Type 0
-Begun lanes s t marks after (onward.TheVariants.At r) = BegunAt lanes s t marks after r
-Begun lanes s t marks after onward.TheVariants.End = (m : TransactionLocator) → is_after after m ≡ true → Bare lanes m
+unfoldable pub Begun : Lanes → Bytes → List ℕ → List ℕ → Option TransactionLocator → code.Option sweep.Sweep → Type 0
+Begun lanes s t marks after (Some r) = BegunAt lanes s t marks after r
+Begun lanes s t marks after None = (m : TransactionLocator) → is_after after m ≡ true → Bare lanes m

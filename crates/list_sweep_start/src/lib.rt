@@ -3,9 +3,8 @@
 
 ghost use Rattle.std.specs.Prelude.{◌≡◌, ℕ, ◌≤◌, length, get_or};
 ghost use Rattle.base.specs.Lists.{pick};
-ghost use Rattle.types.specs.Values.{as_locator};
+ghost use Rattle.types.specs.Values.{as_locator, as_maybe};
 ghost use Rattle.final_block_votes.specs.Walk.{SortedStore};
-ghost use Rattle.list_after.specs.Answers.{as_maybe};
 ghost use Rattle.list_row_sort.specs.Rows.{rows_of};
 ghost use Rattle.list_range_rows.specs.Ranges.{any_covers};
 ghost use Rattle.list_kind_ranges.specs.Kinds.{any_span};
@@ -13,10 +12,9 @@ ghost use Rattle.list_lanes.specs.Lanes.{lane_ranges};
 ghost use Rattle.list_sweep.specs.Sweep.{MarksAt, Room};
 ghost use Rattle.list_sweep_start.specs.Begin.{ProperRows, StandsAfter, StoodAfter, Begun};
 
-use list_after::MaybeLocator;
 use list_cuts::Window;
 use list_lanes::Wanted;
-use list_sweep::{Onward, Sweep};
+use list_sweep::Sweep;
 use types::TransactionLocator;
 
 // The words of the rows of one block's ranges.
@@ -29,14 +27,12 @@ fn any_covers(store: &[u8], rows: &[u64], m: usize, locator: TransactionLocator)
     requires { ProperRows store.now rows.now m }
     ensures { result ≡ any_covers store.now (rows_of rows.now m) (as_locator locator) }
 {
-    let last = MaybeLocator::Locator(locator);
-    let mut i: usize = 0;
-    while i < m {
+    let last = Some(locator);
+    for i in 0..m {
         let from = list_row_sort::ROW_WORDS * i;
         let at = rows[from] as usize;
         let starts = list_order::follows(store, at, rows[from + 1], last);
         let ends = list_order::follows(store, at, rows[from + 2], last);
-        i += 1;
         if starts {
             continue;
         }
@@ -71,7 +67,7 @@ fn lane_says(
     let kind = list_lanes::lane_kind(lane);
     let start = at + 8;
     let end = store_entries::record_end(store, at);
-    let here = MaybeLocator::Locator(locator);
+    let here = Some(locator);
     let m = list_own_ranges::own_ranges(
         store,
         start,
@@ -108,11 +104,9 @@ fn mark_lanes(
 {
     let mut rows = [0u64; BLOCK_ROWS];
     let mut spare = [0u64; BLOCK_ROWS];
-    let mut k: usize = 0;
-    while k < list_lanes::LANES {
+    for k in 0..list_lanes::LANES {
         let yes = lane_says(store, order, wanted, k, locator, &mut rows, &mut spare);
         marks[k] = flag(yes);
-        k += 1;
     }
 }
 
@@ -157,19 +151,19 @@ fn stand_after(
     Sweep { n, bound, at, here }
 }
 
-// Begins a sweep after a given locator, or at the first edge. All marks are 0.
+// Begins a sweep after a given locator, or at the first edge; or there is nothing to stand at. All marks are 0.
 pub fn begin(
     store: &[u8],
     order: &[u64],
     wanted: Wanted,
-    after: MaybeLocator,
+    after: Option<TransactionLocator>,
     edges: &mut [u64],
     marks: &mut [u64],
-) -> Onward
+) -> Option<Sweep>
     requires { Room store.now order.now edges.old marks.old × ((k : ℕ) → get_or marks.old k 0 ≡ 0) }
     ensures { Begun (lane_ranges wanted store.now order.now) store.now edges.new marks.new (as_maybe after) result }
 {
-    let MaybeLocator::Locator(given) = after else {
+    let Some(given) = after else {
         let window = list_window::gather(store, order, wanted, after, edges);
         return list_sweep::go_on(store, order, wanted, window, 0, edges, marks);
     };
@@ -179,7 +173,7 @@ pub fn begin(
         // Nothing stands just after it: the sweep stands at the locator itself, which no list shows.
         let n = window.n;
         let bound = window.bound;
-        return Onward::At(Sweep {
+        return Some(Sweep {
             n,
             bound,
             at: 0,
@@ -187,5 +181,5 @@ pub fn begin(
         });
     }
     let sweep = stand_after(store, window, given, edges, marks);
-    Onward::At(sweep)
+    Some(sweep)
 }

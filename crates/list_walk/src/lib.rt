@@ -89,8 +89,8 @@ pub fn walk(
     let mut below = AuthoritySet::new();
     let mut blocks: usize = 0;
     let mut checked = committee_quorum::nobody();
-    let mut k = skip(own, order.len(), certified);
-    while k < order.len() {
+    let first = skip(own, order.len(), certified);
+    for k in first..order.len() {
         let at = order[k] as usize;
         below = list_include_sets::below_at(sets, k, &memo, below);
         let voters = list_ancestry::with_own(store, at, own[k], below);
@@ -98,7 +98,6 @@ pub fn walk(
         checked = committee_quorum::check(stakes, total, checked, counted_at(voters, rejecters, k));
         let yes = certifies_at(store, at, checked.quorum);
         certified[k] = flag(yes);
-        k += 1;
         if !yes {
             continue;
         }
@@ -116,12 +115,10 @@ pub fn same_words(a: &[u64], b: &[u64], n: usize) -> bool
     requires { (n ≤ length a.now) × (n ≤ length b.now) }
     ensures { SameWords a.now b.now n result }
 {
-    let mut k: usize = 0;
-    while k < n {
+    for k in 0..n {
         if a[k] != b[k] {
             return false;
         }
-        k += 1;
     }
     true
 }

@@ -13,7 +13,7 @@ use Rattle.record_spec.specs.Block.{Block}
 use Rattle.store_spec.specs.Entry.{block_at, is_entry}
 use Rattle.store_spec.proofs.Loops.{entry_room, record-part}
 use Rattle.list_block_spans.specs.Joined.{VotesFit}
-use Rattle.list_after.specs.Answers.{as_maybe}
+use Rattle.types.specs.Values.{as_maybe}
 use Rattle.base.specs.Lists.{any_of}
 use Rattle.base.proofs.Lists.{none_of, no_pairs}
 use Rattle.list_row_sort.specs.Rows.{Row}

@@ -19,7 +19,7 @@ use Rattle.final_spec.proofs.Fits.{block_fits}
 use Rattle.final_block_votes.specs.Walk.{SortedStore, block_at_place}
 use Rattle.final_block_votes.proofs.Sorting.{place_entry, place_stored}
 use Rattle.list_block_spans.proofs.Fits.{votes_fit}
-use Rattle.list_after.specs.Answers.{as_maybe}
+use Rattle.types.specs.Values.{as_maybe}
 use Rattle.list_row_sort.specs.Rows.{Row, rows_of, rows_from, key_of, Inside, SortedAs}
 use Rattle.list_row_sort.proofs.Permutations.{in_permuted, permuted_length, permuted_keep}
 use Rattle.list_row_sort.proofs.Tables.{inside_permuted}

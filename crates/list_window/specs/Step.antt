@@ -5,7 +5,7 @@ use Rattle.base.specs.Le.{Bytes}
 use Rattle.record_spec.specs.Reference.{TransactionLocator, TransactionLocatorRange}
 use Rattle.store_spec.specs.Entry.{block_at, is_entry}
 use Rattle.list_block_spans.specs.Joined.{VotesFit}
-use Rattle.list_after.specs.Answers.{as_maybe}
+use Rattle.types.specs.Values.{as_maybe}
 use Rattle.list_row_sort.specs.Rows.{Row, Sortable}
 use Rattle.list_edge_rows.specs.Edges.{edges_of}
 use Rattle.list_cuts.specs.Cuts.{Held}

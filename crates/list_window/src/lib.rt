@@ -4,15 +4,15 @@
 ghost use Rattle.std.specs.Prelude.{◌≡◌, ◌+◌, ◌*◌, ◌%◌, ◌<◌, length, get_or};
 ghost use Rattle.store_spec.specs.Entry.{block_at};
 ghost use Rattle.final_block_votes.specs.Walk.{SortedStore};
-ghost use Rattle.list_after.specs.Answers.{as_maybe};
+ghost use Rattle.types.specs.Values.{as_maybe};
 ghost use Rattle.list_kind_ranges.specs.Kinds.{kind_ranges};
 ghost use Rattle.list_lanes.specs.Lanes.{lane_kind, lane_ranges};
 ghost use Rattle.list_window.specs.Window.{Gathered};
 ghost use Rattle.list_window.specs.Step.{Enterable, NextTaken};
 
-use list_after::MaybeLocator;
 use list_cuts::Window;
 use list_lanes::Wanted;
+use types::TransactionLocator;
 
 // The words of a table of edges.
 pub const TABLE_WORDS: usize = 16386;
@@ -22,7 +22,7 @@ fn next_block(
     store: &[u8],
     at: usize,
     lane: usize,
-    last: MaybeLocator,
+    last: Option<TransactionLocator>,
     window: Window,
     edges: &mut [u64],
     spare: &mut [u64],
@@ -54,7 +54,7 @@ fn next_lane(
     order: &[u64],
     lane: usize,
     wanted: Wanted,
-    last: MaybeLocator,
+    last: Option<TransactionLocator>,
     window: Window,
     edges: &mut [u64],
     spare: &mut [u64],
@@ -76,25 +76,19 @@ pub fn gather(
     store: &[u8],
     order: &[u64],
     wanted: Wanted,
-    last: MaybeLocator,
+    last: Option<TransactionLocator>,
     edges: &mut [u64],
 ) -> Window
     requires { SortedStore store.now order.now × (length edges.old ≡ 16386) }
     ensures { Gathered (lane_ranges wanted store.now order.now) store.now (as_maybe last) (as_maybe result.bound) edges.new result.n }
 {
     let mut spare = [0u64; TABLE_WORDS];
-    let mut window = Window {
-        n: 0,
-        bound: MaybeLocator::Nothing,
-    };
-    let mut k: usize = 0;
-    while k < list_lanes::LANES {
-        let lane = k;
-        k += 1;
-        if order.len() <= lane % 1024 {
+    let mut window = Window { n: 0, bound: None };
+    for k in 0..list_lanes::LANES {
+        if order.len() <= k % 1024 {
             continue; // no block
         }
-        window = next_lane(store, order, lane, wanted, last, window, edges, &mut spare);
+        window = next_lane(store, order, k, wanted, last, window, edges, &mut spare);
     }
     list_row_sort::sort_rows(store, edges, &mut spare, window.n);
     window

@@ -14,11 +14,9 @@ pub fn pending_offsets(table: &[u64]) -> u64
 {
     let n = pending_words::item_count(table);
     let mut sum: u64 = 0;
-    let mut k = 0;
-    while k < n {
+    for k in 0..n {
         let x = pending_words::item_at(table, k);
         sum = std::num::wrapping_add_u64(sum, x.end - x.start);
-        k += 1;
     }
     sum
 }

@@ -27,12 +27,10 @@ pub fn put_events(out: &mut [u8], k: u64, events: &[u64], n: usize) -> Printed
 {
     let mut at = 0;
     let mut processed: u64 = 0;
-    let mut j = 0;
-    while j < n {
+    for j in 0..n {
         let i = 3 * j;
         at = listing_lines::put_event(out, at, events[i], k, events[i + 1], events[i + 2]);
         processed += one_if_processed(events[i]);
-        j += 1;
     }
     Printed { put: at, processed }
 }

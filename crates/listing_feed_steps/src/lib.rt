@@ -2,12 +2,13 @@
 #![tactic(auto)]
 
 ghost use Rattle.std.specs.Prelude.{◌*◌, ◌≤◌, length};
+ghost use Rattle.base.specs.Refusals.{refusal_number};
 ghost use Rattle.listing_io.specs.Sizes.{size_at_most};
 ghost use Rattle.listing_spec.specs.Output.{framed, refused_with, accepted_with, told};
 ghost use Rattle.listing_feed_steps.specs.Steps.{feeding_of, frame_read, Counted, CountedAfter, Step, AnyStep};
 ghost use Rattle.listing_feed_steps.specs.Feeds.{engine, FedFrom};
 
-use feed_single::FeedAnswer;
+use base::Refusal;
 use listing_input::Size;
 
 // The bytes that the lines of a record may take: 2,730 events of 128 bytes.
@@ -30,12 +31,12 @@ pub struct Fed {
 }
 
 // Puts that the record is refused, and counts it.
-fn refused(out: &mut [u8], done: Fed, number: u64, ended: bool) -> Fed
+fn refused(out: &mut [u8], done: Fed, refusal: Refusal, ended: bool) -> Fed
     requires { Counted done × (349440 ≤ length out.old) }
-    ensures any_step { AnyStep (λ s w. refused_with (feeding_of done s w) number ended) out.old out.new result }
+    ensures any_step { AnyStep (λ s w. refused_with (feeding_of done s w) (refusal_number refusal) ended) out.old out.new result }
     ensures counted_after { CountedAfter done result }
 {
-    let put = listing_lines::put_refused(out, 0, done.number, number);
+    let put = listing_lines::put_refused(out, 0, done.number, refusal.number());
     Fed {
         number: done.number + 1,
         accepted: done.accepted,
@@ -81,8 +82,8 @@ fn feed_record(
     let mut events = [0u64; EVENT_WORDS];
     let answer = feed_single::feed(stakes, store, table, &mut work, &mut events, rec);
     match answer {
-        FeedAnswer::Events(n) => accepted(out, done, &events, n as usize),
-        FeedAnswer::Refused(number) => refused(out, done, number, false),
+        Ok(n) => accepted(out, done, &events, n as usize),
+        Err(refusal) => refused(out, done, refusal, false),
     }
 }
 
@@ -111,7 +112,7 @@ pub fn step(
             put: 0,
             ended: true,
         },
-        Size::Broken => refused(out, done, 20, true),
+        Size::Broken => refused(out, done, Refusal::Malformed, true),
         Size::Of(n) => feed_record(stakes, store, table, &rec[..n], out, done),
     }
 }

@@ -5,14 +5,15 @@ ghost use Rattle.std.specs.Prelude.{◌≡◌, ◌*◌, ◌≤◌, length};
 ghost use Rattle.final_readings_spec.specs.Readings.{old};
 ghost use Rattle.list_readings_spec.specs.Answers.{is_ordinary};
 ghost use Rattle.list_readings_spec.specs.Lists.{listed_stretches};
-ghost use Rattle.list_after.specs.Answers.{as_maybe};
+ghost use Rattle.types.specs.Values.{as_maybe};
 ghost use Rattle.list_stretch_bytes.specs.Answers.{as_stretches};
 ghost use Rattle.listing_final_steps.specs.Steps.{given_in, given_by};
 
+use base::Refusal;
 use final_readings_spec::Reading;
-use list_after::MaybeLocator;
 use list_readings_spec::FinalList;
-use list_stretch_bytes::StretchesAnswer;
+use list_stretch_bytes::Stretches;
+use types::TransactionLocator;
 
 // How many stretches stand in front, and whether more locators follow these.
 #[derive(Clone, Copy)]
@@ -21,20 +22,20 @@ pub struct Asked {
     pub more: bool,
 }
 
-fn told(answer: StretchesAnswer) -> Asked
+fn told(answer: Result<Stretches, Refusal>) -> Asked
     ensures { given_in result ≡ given_by (as_stretches answer) }
 {
     match answer {
-        StretchesAnswer::Last(n) => Asked {
+        Ok(Stretches::Last(n)) => Asked {
             count: n as usize,
             more: false,
         },
-        StretchesAnswer::More(n) => Asked {
+        Ok(Stretches::More(n)) => Asked {
             count: n as usize,
             more: true,
         },
         // Never so of a store that was fed: nothing is listed.
-        StretchesAnswer::Refused(_) => Asked {
+        Err(_) => Asked {
             count: 0,
             more: false,
         },
@@ -46,7 +47,7 @@ pub fn ask(
     stakes: &[u64],
     store: &[u8],
     stretches: &mut [u8],
-    after: MaybeLocator,
+    after: Option<TransactionLocator>,
     list: FinalList,
 ) -> Asked
     ensures result_value { given_in result ≡ given_by (listed_stretches (is_ordinary list) old stakes.now store.now stretches.old (as_maybe after)).answer }

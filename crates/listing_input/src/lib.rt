@@ -9,8 +9,7 @@ ghost use Rattle.stakes_file.specs.Answers.{stakes_in, members_at_most};
 ghost use Rattle.listing_input.specs.Input.{stake_bytes, file_stakes, listed_stakes, size_of, whole_size};
 ghost use Rattle.listing_input.specs.Read.{read_at_most, as_file};
 
-use committee::NewCommittee;
-use stakes_file::LoadAnswer;
+use base::Refusal;
 
 // What the next bytes say of the record that follows: there is none, the framing is broken, or how long it is.
 #[derive(Clone, Copy)]
@@ -78,31 +77,28 @@ pub enum FileRead {
 }
 
 // Puts the stakes of the file in front; one that is absent is empty, one that cannot be read is broken.
-fn table_of(file: FileRead, bytes: &[u8], stakes: &mut [u64]) -> LoadAnswer
+fn table_of(file: FileRead, bytes: &[u8], stakes: &mut [u64]) -> Result<usize, Refusal>
     requires { (254 ≤ length stakes.old) × read_at_most (length bytes.now) file }
     ensures { members_at_most 254 result × (stakes_in result stakes.new ≡ file_stakes (as_file file bytes.now)) }
 {
     match file {
         FileRead::Absent => stakes_file::load(b"", stakes),
         FileRead::Of(n) => stakes_file::load(&bytes[..n], stakes),
-        FileRead::Failed => LoadAnswer::Refused(56),
+        FileRead::Failed => Err(Refusal::StakesFileBroken),
     }
 }
 
 // Checks the first n stakes: 1 to 4.
-fn checked_members(stakes: &[u64], n: usize) -> LoadAnswer
+fn checked_members(stakes: &[u64], n: usize) -> Result<usize, Refusal>
     requires { (n ≤ length stakes.now) × (n ≤ 254) }
     ensures { members_at_most 254 result × (stakes_in result stakes.now ≡ checked (committee_checks (take n stakes.now)) (take n stakes.now)) }
 {
-    let set = committee::new_committee(&stakes[..n]);
-    match set {
-        NewCommittee::Taken(_) => LoadAnswer::Members(n),
-        NewCommittee::Broken(number) => LoadAnswer::Refused(number),
-    }
+    committee::new_committee(&stakes[..n])?;
+    Ok(n)
 }
 
 // Puts the stakes that follow the count in front; missing bytes are zero.
-fn members_of(count: u8, read: &[u8], stakes: &mut [u64]) -> LoadAnswer
+fn members_of(count: u8, read: &[u8], stakes: &mut [u64]) -> Result<usize, Refusal>
     requires { (254 ≤ length stakes.old) × (count ≤ 254) }
     ensures { members_at_most 254 result × (stakes_in result stakes.new ≡ checked (committee_checks (words_in count read.now)) (words_in count read.now)) }
 {
@@ -119,7 +115,7 @@ pub fn committee_of(
     file: FileRead,
     bytes: &[u8],
     stakes: &mut [u64],
-) -> LoadAnswer
+) -> Result<usize, Refusal>
     requires { (254 ≤ length stakes.old) × read_at_most (length bytes.now) file }
     ensures { members_at_most 254 result × (stakes_in result stakes.new ≡ listed_stakes count read.now (as_file file bytes.now)) }
 {

@@ -1,7 +1,7 @@
 // Input and output of `listing`: what is asked of the system, and what it answers.
 #![tactic(auto)]
 
-ghost use Rattle.std.specs.Prelude.{◌≤◌, ◌≡◌, length};
+ghost use Rattle.std.specs.Prelude.{◌≤◌, ◌≡◌, length, IfOk};
 ghost use Rattle.listing_io.specs.Sizes.{size_at_most, filled_at_most};
 
 use listing_input::Size;
@@ -9,101 +9,55 @@ use std::io::Read;
 use std::rt::Files;
 use std::{fs, io, str};
 
-// How reading went: so many bytes stand in front, fewer than were asked for where the input ended; or a read failed.
-#[derive(Clone, Copy)]
-pub enum Filled {
-    Of(usize),
-    Failed(io::Error),
-}
-
-// One read: some bytes, none where the input ended.
-fn read_some<R: Read>(input: &mut R, bytes: &mut [u8]) -> Filled
-    ensures { filled_at_most (length bytes.old) result }
-{
-    match input.read(bytes) {
-        Ok(n) => Filled::Of(n),
-        Err(e) => Filled::Failed(e),
-    }
-}
-
-// Reads until all bytes are filled or the input ends.
-pub fn fill<R: Read>(input: &mut R, bytes: &mut [u8]) -> Filled
+// Reads until all bytes are filled or the input ends: how many stand in front, fewer than were asked for where it ended.
+pub fn fill<R: Read>(input: &mut R, bytes: &mut [u8]) -> io::Result<usize>
     ensures { filled_at_most (length bytes.old) result }
 {
     let mut done = 0;
     while done < bytes.len() {
-        let some = read_some(input, &mut bytes[done..]);
-        let Filled::Of(n) = some else {
-            return some;
-        };
+        let n = input.read(&mut bytes[done..])?;
         if n == 0 {
-            return Filled::Of(done);
+            return Ok(done);
         }
         done += n;
     }
-    Filled::Of(done)
+    Ok(done)
 }
 
 // The same for the first `size` bytes.
-pub fn fill_front<R: Read>(input: &mut R, bytes: &mut [u8], size: usize) -> Filled
+pub fn fill_front<R: Read>(input: &mut R, bytes: &mut [u8], size: usize) -> io::Result<usize>
     requires { size ≤ length bytes.old }
     ensures { filled_at_most size result }
 {
     fill(input, &mut bytes[..size])
 }
 
-// The size of the next record, or why reading failed.
-#[derive(Clone, Copy)]
-pub struct NextSize {
-    pub size: Size,
-    pub failed: Option<io::Error>,
-}
-
 // What the next four bytes say.
-fn read_size<R: Read>(input: &mut R) -> NextSize
-    ensures { size_at_most 8192 result.size }
+fn read_size<R: Read>(input: &mut R) -> io::Result<Size>
+    ensures { IfOk result (size_at_most 8192) }
 {
     let mut head = [0u8; 4];
-    let filled = fill(input, &mut head);
-    match filled {
-        Filled::Of(got) => NextSize {
-            size: listing_input::size_of(&head[..got]),
-            failed: None,
-        },
-        Filled::Failed(error) => NextSize {
-            size: Size::End,
-            failed: Some(error),
-        },
-    }
+    let got = fill(input, &mut head)?;
+    Ok(listing_input::size_of(&head[..got]))
 }
 
 // Reads the bytes of a record of that size to the front of `rec`: one past the end is broken.
-fn read_body<R: Read>(input: &mut R, rec: &mut [u8], n: usize) -> NextSize
+fn read_body<R: Read>(input: &mut R, rec: &mut [u8], n: usize) -> io::Result<Size>
     requires { (length rec.old ≡ 8192) × (n ≤ 8192) }
-    ensures { size_at_most 8192 result.size }
+    ensures { IfOk result (size_at_most 8192) }
 {
-    let filled = fill_front(input, rec, n);
-    match filled {
-        Filled::Of(got) => NextSize {
-            size: listing_input::whole_size(n, got),
-            failed: None,
-        },
-        Filled::Failed(error) => NextSize {
-            size: Size::End,
-            failed: Some(error),
-        },
-    }
+    let got = fill_front(input, rec, n)?;
+    Ok(listing_input::whole_size(n, got))
 }
 
 // Reads the next record to the front of `rec`.
-pub fn read_record<R: Read>(input: &mut R, rec: &mut [u8]) -> NextSize
+pub fn read_record<R: Read>(input: &mut R, rec: &mut [u8]) -> io::Result<Size>
     requires { length rec.old ≡ 8192 }
-    ensures { size_at_most 8192 result.size }
+    ensures { IfOk result (size_at_most 8192) }
 {
-    let head = read_size(input);
-    let size = head.size;
+    let size = read_size(input)?;
     let Size::Of(n) = size else {
-        return head;
+        return Ok(size);
     };
     read_body(input, rec, n)
 }

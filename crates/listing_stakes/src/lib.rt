@@ -1,13 +1,12 @@
 // The committee of a listing: its stakes from the input, or from the file of stakes.
 #![tactic(auto)]
 
-ghost use Rattle.std.specs.Prelude.{◌≡◌, length};
+ghost use Rattle.std.specs.Prelude.{◌≡◌, length, IfOk};
 ghost use Rattle.stakes_file.specs.Answers.{members_at_most};
 ghost use Rattle.listing_input.specs.Read.{read_at_most};
 
+use base::Refusal;
 use listing_input::FileRead;
-use listing_io::Filled;
-use stakes_file::LoadAnswer;
 use std::io;
 use std::io::{ErrorKind, Read};
 use std::rt::Files;
@@ -16,10 +15,9 @@ use std::rt::Files;
 fn read_open<F: Read>(file: &mut F, bytes: &mut [u8]) -> FileRead
     ensures { read_at_most (length bytes.old) result }
 {
-    let filled = listing_io::fill(file, bytes);
-    match filled {
-        Filled::Of(n) => FileRead::Of(n),
-        Filled::Failed(_) => FileRead::Failed,
+    match listing_io::fill(file, bytes) {
+        Ok(n) => FileRead::Of(n),
+        Err(_) => FileRead::Failed,
     }
 }
 
@@ -48,23 +46,6 @@ fn read_table<R: Files>(rt: &R, count: u8, name: &[u8], bytes: &mut [u8]) -> Fil
     FileRead::Absent
 }
 
-// The members that were read, or a refusal; or why reading failed.
-#[derive(Clone, Copy)]
-pub struct CommitteeRead {
-    pub answer: LoadAnswer,
-    pub failed: Option<io::Error>,
-}
-
-// Reading the input failed: there is no committee.
-fn unread(error: io::Error) -> CommitteeRead
-    ensures { members_at_most 254 result.answer }
-{
-    CommitteeRead {
-        answer: LoadAnswer::Refused(0),
-        failed: Some(error),
-    }
-}
-
 // The committee from the bytes that follow the count, or from the file. One byte more than the file may have is lent, so that a longer one is broken.
 fn read_members<R: Files>(
     rt: &R,
@@ -72,17 +53,13 @@ fn read_members<R: Files>(
     bytes: &[u8],
     name: &[u8],
     stakes: &mut [u64],
-) -> CommitteeRead
+) -> Result<usize, Refusal>
     requires { length stakes.old ≡ 254 }
-    ensures { members_at_most 254 result.answer }
+    ensures { members_at_most 254 result }
 {
     let mut file = [0u8; 65537];
     let read = read_table(rt, count, name, &mut file);
-    let answer = listing_input::committee_of(count, bytes, read, &file, stakes);
-    CommitteeRead {
-        answer,
-        failed: None,
-    }
+    listing_input::committee_of(count, bytes, read, &file, stakes)
 }
 
 // The stakes that follow the member count, or those of the file.
@@ -92,36 +69,28 @@ fn read_stakes<R: Files, I: Read>(
     count: u8,
     name: &[u8],
     stakes: &mut [u64],
-) -> CommitteeRead
+) -> io::Result<Result<usize, Refusal>>
     requires { length stakes.old ≡ 254 }
-    ensures { members_at_most 254 result.answer }
+    ensures { IfOk result (members_at_most 254) }
 {
     let mut bytes = [0u8; 2032];
     let size = listing_input::stake_bytes(count);
-    let filled = listing_io::fill_front(input, &mut bytes, size);
-    match filled {
-        Filled::Of(got) => read_members(rt, count, &bytes[..got], name, stakes),
-        Filled::Failed(error) => unread(error),
-    }
+    let got = listing_io::fill_front(input, &mut bytes, size)?;
+    Ok(read_members(rt, count, &bytes[..got], name, stakes))
 }
 
-// Reads the committee's stakes, and puts them in front.
+// Reads the committee's stakes, and puts them in front: how many members there are, or a refusal; or why reading the input failed.
 pub fn read_committee<R: Files, I: Read>(
     rt: &R,
     input: &mut I,
     name: &[u8],
     stakes: &mut [u64],
-) -> CommitteeRead
+) -> io::Result<Result<usize, Refusal>>
     requires { length stakes.old ≡ 254 }
-    ensures { members_at_most 254 result.answer }
+    ensures { IfOk result (members_at_most 254) }
 {
     let mut head = [0u8; 1];
-    let filled = listing_io::fill(input, &mut head);
-    match filled {
-        Filled::Of(got) => {
-            let count = listing_input::member_count(&head[..got]);
-            read_stakes(rt, input, count, name, stakes)
-        }
-        Filled::Failed(error) => unread(error),
-    }
+    let got = listing_io::fill(input, &mut head)?;
+    let count = listing_input::member_count(&head[..got]);
+    read_stakes(rt, input, count, name, stakes)
 }

@@ -10,10 +10,10 @@ use Rattle.types.specs.Values.{be_bytes, digest_bytes, as_reference, as_locator}
 use Rattle.types.specs.declared.BlockDigest.{BlockDigest}
 use Rattle.types.specs.declared.TransactionLocator as code
 use Rattle.record_reference_bytes.specs.Step.{reference_at}
-use Rattle.list_after.specs.declared.MaybeLocator.TheVariants.{Locator}
-use Rattle.list_after.specs.Answers.{as_maybe}
+use Rattle.types.specs.Values.{as_maybe}
 use Rattle.listing_lines.specs.Lines.{head_of}
 use Rattle.listing_stretches.specs.Stretches.{last_of}
+use Rattle.std.specs.Prelude.{Some}
 
 pub head_word : (d : BlockDigest) → d.0 < 18446744073709551616 → d.0 / 4294967296 ≡ head_of (digest_bytes d)
 unfolding head_of digest_bytes be_bytes le_bytes
@@ -24,7 +24,7 @@ head_word d h =
 
 pub last_some : (b : Bytes) (n : ℕ) (after : Option TransactionLocator) (l : code.TransactionLocator) → (n ≡ 0 → ⊥) → as_reference l.block ≡ reference_at b
     (80 * (n - 1))
-    → l.offset ≡ le_at 8 b (80 * (n - 1) + 56) - 1 → as_maybe (Locator l) ≡ last_of b n after
+    → l.offset ≡ le_at 8 b (80 * (n - 1) + 56) - 1 → as_maybe (Some l) ≡ last_of b n after
 unfolding as_maybe as_locator locator last_of
 last_some b zero after l h e f = absurd (h refl)
 last_some b (suc n) after l h e f =

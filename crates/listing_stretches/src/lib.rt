@@ -2,10 +2,9 @@
 #![tactic(auto)]
 
 ghost use Rattle.std.specs.Prelude.{◌≡◌, ◌+◌, ◌-◌, ◌*◌, ◌≤◌, length};
-ghost use Rattle.list_after.specs.Answers.{as_maybe};
+ghost use Rattle.types.specs.Values.{as_maybe};
 ghost use Rattle.listing_stretches.specs.Stretches.{ReadStretch, last_of};
 
-use list_after::MaybeLocator;
 use listing_final_lines::Stretch;
 use types::TransactionLocator;
 
@@ -51,7 +50,11 @@ fn before(end: u64) -> u64
 }
 
 // The last locator of n stretches, after which the list goes on; the one before them where there are none.
-pub fn last_locator(stretches: &[u8], n: usize, after: MaybeLocator) -> MaybeLocator
+pub fn last_locator(
+    stretches: &[u8],
+    n: usize,
+    after: Option<TransactionLocator>,
+) -> Option<TransactionLocator>
     requires { 80 * n ≤ length stretches.now }
     ensures { as_maybe result ≡ last_of stretches.now n (as_maybe after) }
 {
@@ -61,5 +64,5 @@ pub fn last_locator(stretches: &[u8], n: usize, after: MaybeLocator) -> MaybeLoc
     let at = 80 * (n - 1);
     let block = record_reference_bytes::read_reference(stretches, at);
     let offset = before(base::read_u64(stretches, at + 56));
-    MaybeLocator::Locator(TransactionLocator { block, offset })
+    Some(TransactionLocator { block, offset })
 }

@@ -9,10 +9,8 @@ fn put_text(out: &mut [u8], at: usize, text: &[u8]) -> usize
     requires { at + length text.now ≤ length out.old }
     ensures { Wrote out.old out.new at result text.now }
 {
-    let mut i = 0;
-    while i < text.len() {
+    for i in 0..text.len() {
         out[at + i] = text[i];
-        i += 1;
     }
     at + text.len()
 }
@@ -58,11 +56,9 @@ fn put_numbers(out: &mut [u8], at: usize, ns: &[u64]) -> usize
     ensures { Wrote out.old out.new at result (numbers ns.now) }
 {
     let mut to = at;
-    let mut i = 0;
-    while i < ns.len() {
+    for number in ns {
         out[to] = 32;
-        to = put_decimal(out, to + 1, ns[i]);
-        i += 1;
+        to = put_decimal(out, to + 1, *number);
     }
     to
 }

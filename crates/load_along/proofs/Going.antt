@@ -11,7 +11,7 @@ use Rattle.base.specs.Le.{Bytes}
 use Rattle.base.proofs.Tests.{fails, not_both}
 use Rattle.committee.specs.Committee.{Committee, broken}
 use Rattle.record_spec.specs.Reference.{TransactionLocator, TransactionLocatorRange, locator, locator_before, new_range, locators}
-use Rattle.types.specs.Values.{as_range}
+use Rattle.types.specs.Values.{as_range, as_maybe}
 use Rattle.types.specs.declared.TransactionLocatorRange as ranges
 use Rattle.record_spec.proofs.References.{Precedes, by_block, by_offset, precedes, is_before, locator_irrefl}
 use Rattle.store_spec.specs.Store.{store_in_order}
@@ -25,10 +25,9 @@ use Rattle.final_readings_spec.specs.Readings.{Reading}
 use Rattle.list_readings_spec.specs.Lists.{is_listed, listing, all_listed}
 use Rattle.list_readings_spec.proofs.Least.{least_listed_lem, lists_lawful}
 use Rattle.list_readings_spec.proofs.Whole.{all_in, asked_whole, gives_whole}
-use Rattle.list_after.specs.Answers.{as_maybe}
 use Rattle.load_along.specs.Along.{Tables, share_list, ahead, Held, Found}
 use Rattle.load_along.specs.declared.Along.{Along}
-use Rattle.load_along.specs.declared.Ahead.TheVariants.{Stretch, Ended}
+use Rattle.std.specs.Prelude.{None, Some}
 
 -- of two tests the stricter one keeps fewer, where one passes the other only
 keep_fewer : {A : Type 0} (p q : A → Bool) (xs : List A) → ((x : A) → q x ≡ true → p x ≡ true) → length (keep q xs) ≤ length (keep p xs)
@@ -173,13 +172,13 @@ module _ (reading : Reading) (c : Committee) (s : Bytes) where
 
   module _ (tables : Tables) (along : Along) (gone : List TransactionLocator) (w : Passing tables along gone) where
     -- where none is left, all were passed
-    pub passing_end : (last : Option TransactionLocator) → Found reading c s (as_maybe along.after) last Ended → gone ≡ finals reading c s
+    pub passing_end : (last : Option TransactionLocator) → Found reading c s (as_maybe along.after) last None → gone ≡ finals reading c s
     unfolding Found
     passing_end last e =
         sym (w.splits ∙ ap (λ (ls : List TransactionLocator). gone ++ ls) (none_left reading c s (as_maybe along.after) w.rest w.gives e) ∙
         append-nil gone)
 
-    module _ (q : ranges.TransactionLocatorRange) (last : Option TransactionLocator) (f : Found reading c s (as_maybe along.after) last (Stretch q)) where
+    module _ (q : ranges.TransactionLocatorRange) (last : Option TransactionLocator) (f : Found reading c s (as_maybe along.after) last (Some q)) where
       record Next : Type 0 where
         stretch : FinalStretch
         comes : ahead reading c s 1 (as_maybe along.after) ≡ stretch ∷ []

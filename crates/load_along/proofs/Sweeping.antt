@@ -11,7 +11,7 @@ use Rattle.base.proofs.Le.{AllBytes}
 use Rattle.committee.specs.Committee.{Committee}
 use Rattle.committee.specs.declared.Stake.{Stake}
 use Rattle.record_spec.specs.Reference.{TransactionLocator, locator, new_range}
-use Rattle.types.specs.Values.{as_locator, as_range}
+use Rattle.types.specs.Values.{as_locator, as_range, as_maybe}
 use Rattle.types.specs.declared.TransactionLocatorRange as ranges
 use Rattle.final_spec.specs.Finality.{blocks_of}
 use Rattle.list_stretches_spec.specs.Stretches.{Listing, last_locator, stretch_end, stretch_at, from_found, stretches}
@@ -22,32 +22,31 @@ use Rattle.final_readings_spec.specs.Answers.{as_reading}
 use Rattle.list_readings_spec.specs.Answers.{is_ordinary}
 use Rattle.list_readings_spec.specs.Lists.{listing}
 use Rattle.list_readings_spec.proofs.Least.{lists_lawful}
-use Rattle.list_after.specs.Answers.{as_maybe}
 use Rattle.list_lanes.specs.Lanes.{lane_ranges}
 use Rattle.list_lanes.specs.declared.Wanted.{Wanted}
 use Rattle.list_sweep.specs.Sweep.{Stands}
 use Rattle.list_sweep.specs.declared.Sweep as sweep
-use Rattle.list_sweep.specs.declared.Onward as onward
 use Rattle.list_sweep_start.specs.Begin.{Begun}
 use Rattle.list_marked.specs.Marked.{list_for}
 use Rattle.list_shown.specs.Shown.{Lent, Reaching}
 use Rattle.list_shown.proofs.Reaching.{begun_reaching, begun_none, shown_offset, after_stretch}
 use Rattle.load_along.specs.Along.{Tables, HeldAt, Held, share_list, ahead, Found}
 use Rattle.load_along.specs.declared.Along.{Along}
-use Rattle.load_along.specs.declared.Ahead.TheVariants.{Stretch, Ended}
+use Rattle.std.specs.Prelude.{None, Some}
+use Rattle.std.specs.declared.option.Option as code
 
 -- where the sweep begins
 pub begun_held : (w : Wanted) (c : Committee) (total : Stake) (s : Bytes) (t : Tables) → AllBytes s
-    → ((flags : List ℕ) → length flags ≡ 1024 → Lent c total s t.order t.sets t.edges t.marks flags) → (o : onward.Onward) → Begun
+    → ((flags : List ℕ) → length flags ≡ 1024 → Lent c total s t.order t.sets t.edges t.marks flags) → (o : code.Option sweep.Sweep) → Begun
     (lane_ranges w s t.order) s t.edges t.marks none o → HeldAt w c s t none o
 unfolding HeldAt Begun
-begun_held w c total s t bytes lent (onward.TheVariants.At v) b =
+begun_held w c total s t bytes lent (Some v) b =
     let l = lent (replicate {A = ℕ} 1024 0) (length-replicate {A = ℕ} 1024 0) in (
       b.stands,
       begun_reaching w c s t.order l.room.sorted l.walk.few none t.edges t.marks v b
           (shown_offset w c s bytes l.walk.sorted.in_order),
     )
-begun_held w c total s t bytes lent onward.TheVariants.End b =
+begun_held w c total s t bytes lent None b =
     let l = lent (replicate {A = ℕ} 1024 0) (length-replicate {A = ℕ} 1024 0) in
     begun_none w c s t.order l.room.sorted l.walk.few none b
 
@@ -59,18 +58,18 @@ module _ (c : Committee) (s : Bytes) (t : Tables) (a : Along) where
   list_is reading h = let p = h.shares in let q = h.reads in λ i. listing (p i) (q i) c (blocks_of s)
 
   -- where the sweep stands
-  pub held_at : (v : sweep.Sweep) → a.at ≡ onward.TheVariants.At v → (reading : Reading) → Held reading c s t a → Stands
+  pub held_at : (v : sweep.Sweep) → a.at ≡ Some v → (reading : Reading) → Held reading c s t a → Stands
       (lane_ranges a.wanted s t.order) s t.edges t.marks v × Reaching a.wanted c s (as_maybe a.after) (as_locator v.here)
   unfolding HeldAt
   held_at v e reading h = subst (HeldAt a.wanted c s t (as_maybe a.after)) e h.stands
 
-  pub held_end : a.at ≡ onward.TheVariants.End → (reading : Reading) → Held reading c s t a → list.next (as_maybe a.after) ≡ none
+  pub held_end : a.at ≡ None → (reading : Reading) → Held reading c s t a → list.next (as_maybe a.after) ≡ none
   unfolding HeldAt
   held_end e reading h = subst (HeldAt a.wanted c s t (as_maybe a.after)) e h.stands
 
   -- nothing is shown any more
   pub found_ended : (reading : Reading) → Held reading c s t a → list.next (as_maybe a.after) ≡ none → (last : Option TransactionLocator) → Found reading c
-      s (as_maybe a.after) last Ended
+      s (as_maybe a.after) last None
   unfolding Found
   found_ended reading h e last = stretches_none c (blocks_of s) (share_list reading c s) 1 (as_maybe a.after)
       (subst (λ (k : Listing). k.next (as_maybe a.after) ≡ none) (list_is reading h) e)
@@ -106,7 +105,7 @@ module _ (c : Committee) (s : Bytes) (t : Tables) (a : Along) where
 
       pub found_stretch : (q : ranges.TransactionLocatorRange) → as_range q ≡ new_range l.block l.offset h.offset → (m : TransactionLocator) → m ≡
           locator l.block (h.offset - 1)
-          → Found reading c s (as_maybe a.after) (some m) (Stretch q)
+          → Found reading c s (as_maybe a.after) (some m) (Some q)
       unfolding Found stretch_at last_locator
       found_stretch q range m p = (
         stretch_at c (blocks_of s) (share_list reading c s) l,

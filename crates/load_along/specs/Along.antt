@@ -1,29 +1,28 @@
 -- The ordinary list as it is gone along with one sweep: where that stands, and what comes next. Machinery for the contracts of inner functions. Assumes
 -- nothing: these are definitions.
-use Rattle.std.specs.Prelude.{ℕ, ◌≡◌, true, List, [], ◌∷◌, length}
+use Rattle.std.specs.Prelude.{ℕ, ◌≡◌, true, List, [], ◌∷◌, length, None, Some}
 use Rattle.std.proofs.Math.Option.{Option, none, some}
 use Rattle.base.specs.Le.{Bytes}
 use Rattle.committee.specs.Committee.{Committee}
 use Rattle.committee.specs.declared.Stake.{Stake}
 use Rattle.record_spec.specs.Reference.{TransactionLocator, new_range}
-use Rattle.types.specs.Values.{as_locator, as_range}
+use Rattle.types.specs.Values.{as_locator, as_range, as_maybe}
 use Rattle.final_spec.specs.Finality.{blocks_of}
 use Rattle.list_stretches_spec.specs.Stretches.{Listing, FinalStretch, last_locator, stretches}
 use Rattle.final_readings_spec.specs.Readings.{Reading}
 use Rattle.final_readings_spec.specs.Answers.{as_reading}
 use Rattle.list_readings_spec.specs.Answers.{is_ordinary}
 use Rattle.list_readings_spec.specs.Lists.{listing}
-use Rattle.list_after.specs.Answers.{as_maybe}
 use Rattle.list_lanes.specs.Lanes.{lane_ranges}
 use Rattle.list_lanes.specs.declared.Wanted.{Wanted}
 use Rattle.list_sweep.specs.Sweep.{Stands}
-use Rattle.list_sweep.specs.declared.Onward as onward
 use Rattle.list_marked.specs.Marked.{list_for}
 use Rattle.list_shown.specs.Shown.{Lent, Reaching}
 use Rattle.load_along.specs.declared.Along.{Along}
-use Rattle.load_along.specs.declared.Ahead.{Ahead}
-use Rattle.load_along.specs.declared.Ahead.TheVariants.{Stretch, Ended}
 use Rattle.load_along.specs.declared.Step.{Step}
+use Rattle.std.specs.declared.option.Option as code
+use Rattle.types.specs.declared.TransactionLocatorRange as ranges
+use Rattle.list_sweep.specs.declared.Sweep as sweep
 
 -- the ordinary list of a store
 abbrev pub share_list : Reading → Committee → Bytes → Listing
@@ -46,9 +45,9 @@ abbrev pub tables : List ℕ → List ℕ → List ℕ → List ℕ → Tables
 tables order sets edges marks = record { order = order; sets = sets; edges = edges; marks = marks }
 
 -- the sweep stands where nothing is shown before it after the last locator passed; or nothing is shown after that
-unfoldable pub HeldAt : Wanted → Committee → Bytes → Tables → Option TransactionLocator → onward.Onward → Type 0
-HeldAt w c s t last (onward.TheVariants.At v) = Stands (lane_ranges w s t.order) s t.edges t.marks v × Reaching w c s last (as_locator v.here)
-HeldAt w c s t last onward.TheVariants.End = (list_for w c (blocks_of s)).next last ≡ none
+unfoldable pub HeldAt : Wanted → Committee → Bytes → Tables → Option TransactionLocator → code.Option sweep.Sweep → Type 0
+HeldAt w c s t last (Some v) = Stands (lane_ranges w s t.order) s t.edges t.marks v × Reaching w c s last (as_locator v.here)
+HeldAt w c s t last None = (list_for w c (blocks_of s)).next last ≡ none
 
 -- the ordinary list in a reading is gone along up to the last locator passed
 pub record Held (reading : Reading) (c : Committee) (s : Bytes) (t : Tables) (a : Along) : Type 0 where
@@ -66,9 +65,9 @@ pub record Started (reading : Reading) (total : Stake) (s : Bytes) (order edges 
 -- ---- what comes next
 
 -- what comes next after a locator, and the last locator passed then
-unfoldable pub Found : Reading → Committee → Bytes → Option TransactionLocator → Option TransactionLocator → Ahead → Type 0
-Found reading c s after last Ended = ahead reading c s 1 after ≡ []
-Found reading c s after last (Stretch q) =
+unfoldable pub Found : Reading → Committee → Bytes → Option TransactionLocator → Option TransactionLocator → code.Option ranges.TransactionLocatorRange → Type 0
+Found reading c s after last None = ahead reading c s 1 after ≡ []
+Found reading c s after last (Some q) =
     (t : FinalStretch)
     × (ahead reading c s 1 after ≡ t ∷ [])
     × (as_range q ≡ new_range t.block t.first t.end)

@@ -9,11 +9,10 @@ ghost use Rattle.load_along.specs.Along.{tables, Held, Started, Stepped};
 
 use committee::Stake;
 use final_readings_spec::Reading;
-use list_after::MaybeLocator;
 use list_lanes::Wanted;
 use list_readings_spec::FinalList;
-use list_shown::{Course, NextShown};
-use list_sweep::Onward;
+use list_shown::Course;
+use list_sweep::Sweep;
 use types::{TransactionLocator, TransactionLocatorRange};
 
 // Which list is gone along and how far: the committee's total stake, the ranges that the list wants, where the sweep stands, and the last locator that
@@ -22,20 +21,14 @@ use types::{TransactionLocator, TransactionLocatorRange};
 pub struct Along {
     pub total: Stake,
     pub wanted: Wanted,
-    pub at: Onward,
-    pub after: MaybeLocator,
+    pub at: Option<Sweep>,
+    pub after: Option<TransactionLocator>,
 }
 
 // The next stretch, or none is left.
 #[derive(Clone, Copy)]
-pub enum Ahead {
-    Stretch(TransactionLocatorRange),
-    Ended,
-}
-
-#[derive(Clone, Copy)]
 pub struct Step {
-    pub ahead: Ahead,
+    pub ahead: Option<TransactionLocatorRange>,
     pub along: Along,
 }
 
@@ -55,7 +48,7 @@ pub fn at_start(
         reading,
         list: FinalList::Ordinary,
     };
-    let after = MaybeLocator::Nothing;
+    let after = None;
     let at = list_sweep_start::begin(store, order, wanted, after, edges, marks);
     Along {
         total,
@@ -65,7 +58,7 @@ pub fn at_start(
     }
 }
 
-// The next stretch of the list, and how far it was gone along with it.
+// The next stretch of the list, or none is left, and how far it was gone along with it.
 pub fn next_stretch(
     stakes: &[u64],
     store: &[u8],
@@ -82,11 +75,8 @@ pub fn next_stretch(
     let wanted = along.wanted;
     let at = along.at;
     let after = along.after;
-    let Onward::At(sweep) = at else {
-        return Step {
-            ahead: Ahead::Ended,
-            along,
-        };
+    let Some(sweep) = at else {
+        return Step { ahead: None, along };
     };
     let mut certified = [0u64; types::MAX_BLOCKS];
     let from = Course {
@@ -104,13 +94,13 @@ pub fn next_stretch(
         marks,
         &mut certified,
     );
-    let NextShown::At(f) = next else {
+    let Some(f) = next else {
         return Step {
-            ahead: Ahead::Ended,
+            ahead: None,
             along: Along {
                 total,
                 wanted,
-                at: Onward::End,
+                at: None,
                 after,
             },
         };
@@ -130,7 +120,7 @@ pub fn next_stretch(
         offset: stop - 1,
     };
     Step {
-        ahead: Ahead::Stretch(TransactionLocatorRange {
+        ahead: Some(TransactionLocatorRange {
             block,
             offset_start_inclusive: first.offset,
             offset_end_exclusive: stop,
@@ -138,8 +128,8 @@ pub fn next_stretch(
         along: Along {
             total,
             wanted,
-            at: Onward::At(end),
-            after: MaybeLocator::Locator(last),
+            at: Some(end),
+            after: Some(last),
         },
     }
 }

@@ -7,8 +7,6 @@ ghost use Rattle.types.specs.Values.{as_locator};
 ghost use Rattle.final_block_votes.specs.Walk.{SortedStore};
 ghost use Rattle.load_chain.specs.Chain.{Seen, Collected};
 
-use load_needed::Needed;
-use store_payload::SharePlace;
 use types::TransactionLocator;
 
 // What one look at a share says: it is not loadable, or the place of its block, and the change of a lower round that it needs, if any.
@@ -24,14 +22,13 @@ pub fn look(store: &[u8], order: &[u64], locator: TransactionLocator) -> Sight
     requires { SortedStore store.now order.now }
     ensures { Seen store.now order.now (as_locator locator) result }
 {
-    let SharePlace::Payload(start, len) = store_payload::stored_payload(store, locator) else {
+    let Some((start, len)) = store_payload::stored_payload(store, locator) else {
         return Sight::No;
     };
     let block = locator.block;
     let place = final_block_votes::place_of(store, order, block);
     let end = start + len;
-    let needed = load_needed::needed_by(&store[start..end]);
-    let Needed::Change(change) = needed else {
+    let Some(change) = load_needed::needed_by(&store[start..end]) else {
         return Sight::Alone(place);
     };
     if locator.block.round.0 <= change.block.round.0 {

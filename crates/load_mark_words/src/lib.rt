@@ -33,12 +33,10 @@ pub fn none_left(marks: &[u64], n: usize) -> bool
     requires { n ≤ length marks.now }
     ensures { NoneLeft marks.now n result }
 {
-    let mut k: usize = 0;
-    while k < n {
+    for k in 0..n {
         if marks[k] != 0 {
             return false;
         }
-        k += 1;
     }
     true
 }

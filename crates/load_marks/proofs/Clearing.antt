@@ -11,7 +11,7 @@ use Rattle.base.proofs.Tests.{and_left}
 use Rattle.base.proofs.Members.{in_left, in_right}
 use Rattle.committee.specs.Committee.{Committee}
 use Rattle.record_spec.specs.Reference.{TransactionLocator, locator, locators}
-use Rattle.types.specs.Values.{as_range}
+use Rattle.types.specs.Values.{as_range, as_maybe}
 use Rattle.types.specs.declared.TransactionLocatorRange as ranges
 use Rattle.store_spec.specs.Store.{records_of}
 use Rattle.store_spec.specs.Accept.{is_stored}
@@ -21,18 +21,17 @@ use Rattle.final_spec.proofs.FinalList.{covered_in}
 use Rattle.final_readings_spec.specs.Readings.{Reading}
 use Rattle.list_readings_spec.specs.Lists.{is_listed, all_listed}
 use Rattle.list_readings_spec.proofs.Whole.{all_in}
-use Rattle.list_after.specs.Answers.{as_maybe}
 use Rattle.load_along.specs.Along.{Tables, Found}
 use Rattle.load_along.specs.declared.Along.{Along}
-use Rattle.load_along.specs.declared.Ahead.TheVariants.{Stretch, Ended}
 use Rattle.load_along.proofs.Going.{Passing, passing_end, later, passing_splits, passing_longer}
 use Rattle.load_chain.proofs.Chains.{share_block}
 use Rattle.load_mark_words.specs.Marks.{Cleared}
+use Rattle.std.specs.Prelude.{None, Some}
 
 -- the block of the next stretch is stored
 pub stretch_stored : (reading : Reading) (c : Committee) (s : Bytes) (tables : Tables) (along : Along) (gone : List TransactionLocator)
     (w : Passing reading c s tables along gone) (q : ranges.TransactionLocatorRange)
-    (last : Option TransactionLocator) (f : Found reading c s (as_maybe along.after) last (Stretch q)) → is_stored (records_of s) (as_range q).block ≡ true
+    (last : Option TransactionLocator) (f : Found reading c s (as_maybe along.after) last (Some q)) → is_stored (records_of s) (as_range q).block ≡ true
 unfolding locator is_listed
 stretch_stored reading c s tables along gone w q last f =
     let l : TransactionLocator = locator (as_range q).block (as_range q).start in
@@ -50,7 +49,7 @@ pub record Clearing (reading : Reading) (c : Committee) (s : Bytes) (order : Lis
 
 pub clearing_end : (reading : Reading) (c : Committee) (s : Bytes) (order marks₀ marks : List ℕ) (tables : Tables) (along : Along) → Clearing reading c s
     order marks₀ marks tables along
-    → (last : Option TransactionLocator) → Found reading c s (as_maybe along.after) last Ended → Cleared s order (all_listed true reading c (blocks_of s))
+    → (last : Option TransactionLocator) → Found reading c s (as_maybe along.after) last None → Cleared s order (all_listed true reading c (blocks_of s))
     marks₀ marks
 clearing_end reading c s order marks₀ marks tables along w last e =
     subst (λ (ls : List TransactionLocator). Cleared s order ls marks₀ marks) (passing_end reading c s tables along w.gone w.passing last e) w.cleared

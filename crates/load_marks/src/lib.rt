@@ -10,7 +10,6 @@ ghost use Rattle.load_mark_words.specs.Marks.{Cleared};
 
 use committee::Stake;
 use final_readings_spec::Reading;
-use load_along::Ahead;
 
 // Takes away the marks of final shares, going along the ordinary list.
 pub fn clear_finals(
@@ -34,7 +33,7 @@ pub fn clear_finals(
             stakes, store, order, &sets, along, &mut edges, &mut lanes,
         );
         let ahead = step.ahead;
-        let Ahead::Stretch(range) = ahead else {
+        let Some(range) = ahead else {
             return;
         };
         load_mark_words::clear_mark(store, order, marks, range);

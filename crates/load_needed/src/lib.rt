@@ -7,22 +7,15 @@ ghost use Rattle.load_needed.specs.Answers.{as_needed};
 
 use types::TransactionLocator;
 
-// What a payload needs.
-#[derive(Clone, Copy)]
-pub enum Needed {
-    Nothing,
-    Change(TransactionLocator),
-}
-
 // What a payload needs: the locator after a first byte of 1; nothing by fewer than 57 bytes or another first byte.
-pub fn needed_by(bytes: &[u8]) -> Needed
+pub fn needed_by(bytes: &[u8]) -> Option<TransactionLocator>
     ensures { as_needed result ≡ needed_by bytes.now }
 {
     if bytes.len() < 57 {
-        return Needed::Nothing;
+        return None;
     }
     if bytes[0] != 1 {
-        return Needed::Nothing;
+        return None;
     }
-    Needed::Change(record_reference_bytes::read_locator(bytes, 1))
+    Some(record_reference_bytes::read_locator(bytes, 1))
 }

@@ -9,21 +9,20 @@ use lib.ListN.{length}
 use Rattle.base.specs.Le.{Bytes}
 use Rattle.committee.specs.Committee.{Committee, broken}
 use Rattle.record_spec.specs.Reference.{TransactionLocator, locators}
-use Rattle.types.specs.Values.{as_range}
+use Rattle.types.specs.Values.{as_range, as_maybe}
 use Rattle.types.specs.declared.TransactionLocatorRange as ranges
 use Rattle.store_spec.specs.Store.{store_in_order}
 use Rattle.store_spec.proofs.Loops.{entry_room}
 use Rattle.final_spec.specs.Finality.{blocks_of}
 use Rattle.final_readings_spec.specs.Readings.{Reading}
 use Rattle.list_readings_spec.specs.Lists.{all_listed}
-use Rattle.list_after.specs.Answers.{as_maybe}
 use Rattle.load_along.specs.Along.{Tables, Held, Found}
 use Rattle.load_along.specs.declared.Along.{Along}
-use Rattle.load_along.specs.declared.Ahead.TheVariants.{Stretch, Ended}
 use Rattle.load_along.proofs.Going.{Sized, Passing, passing_start, passing_end, later, passing_splits, passing_longer, passing_next}
 use Rattle.load_pass.specs.Holding.{Holding, Past, Coming, Listed, Read}
 use Rattle.load_pass.specs.declared.ReadUp.{ReadUp}
 use Rattle.load_pass.proofs.Holding.{past_none, past_on, holding_start}
+use Rattle.std.specs.Prelude.{None, Some}
 
 module _ (reading : Reading) (c : Committee) (s : Bytes) where
   -- what was gone along, and the places of its loadable shares
@@ -48,12 +47,12 @@ module _ (reading : Reading) (c : Committee) (s : Bytes) where
       }
 
   module _ (ps₀ ps : List ℕ) (tables : Tables) (along : Along) (read : ReadUp) (n : ℕ) (w : Walking ps₀ ps tables along read n) where
-    pub walking_end : (last : Option TransactionLocator) → Found reading c s (as_maybe along.after) last Ended → Holding reading c s
+    pub walking_end : (last : Option TransactionLocator) → Found reading c s (as_maybe along.after) last None → Holding reading c s
         (all_listed true reading c (blocks_of s)) ps n
     walking_end last e = subst (λ (ls : List TransactionLocator). Holding reading c s ls ps n)
         (passing_end reading c s tables along w.gone w.passing last e) w.holding
 
-    module _ (q : ranges.TransactionLocatorRange) (last : Option TransactionLocator) (f : Found reading c s (as_maybe along.after) last (Stretch q)) where
+    module _ (q : ranges.TransactionLocatorRange) (last : Option TransactionLocator) (f : Found reading c s (as_maybe along.after) last (Some q)) where
       pub walking_coming : store_in_order c s ≡ true → Coming s (as_range q) ps n
       walking_coming order =
           record {

@@ -18,7 +18,7 @@ use Rattle.record_statement.specs.declared.BaseStatement.{BaseStatement}
 use Rattle.record_statement.specs.declared.BaseStatement.TheVariants.{Share, Accept, Reject, RejectFor, VoteRange}
 use Rattle.record_cursor.proofs.Statements.{start_inside}
 use Rattle.store_payload.specs.Answers.{shared_by}
-use Rattle.store_payload.specs.declared.SharePlace.TheVariants.{Payload, NoShare}
+use Rattle.std.specs.Prelude.{Some, None}
 use Rattle.base.proofs.Lists.{element_at}
 
 pub payload_here : (b : Block) (i : ℕ) (p : List ℕ) → i < length b.statements → share p ≡ get_or b.statements i no_statement → get_elem? b.statements i ≡
@@ -27,7 +27,7 @@ payload_here b i p h e = element_at b.statements i no_statement h ∙ ap some (s
 
 -- ---- what the code tells of a statement
 
-pub told_other : (rec : List ℕ) (st : BaseStatement) → shared_by st ≡ NoShare → is_share (as_statement rec st) ≡ false
+pub told_other : (rec : List ℕ) (st : BaseStatement) → shared_by st ≡ None → is_share (as_statement rec st) ≡ false
 unfolding shared_by as_statement is_share
 told_other rec (Share start len) h = absurd (let z : ◌≡◌ {A = ℕ} 0 1 = cc in omega arith)
 told_other rec (Accept l) h = refl
@@ -35,9 +35,11 @@ told_other rec (Reject l) h = refl
 told_other rec (RejectFor l other) h = refl
 told_other rec (VoteRange r) h = refl
 
-pub told_share : (st : BaseStatement) (start len : ℕ) → shared_by st ≡ Payload start len → st ≡ Share start len
+pub told_share : (st : BaseStatement) (start len : ℕ) → shared_by st ≡ Some (start, len) → st ≡ Share start len
 unfolding shared_by
-told_share (Share a n) start len h = cc
+told_share (Share a n) start len h =
+    let e : ◌≡◌ {A = ℕ × ℕ} (a, n) (start, len) = cc in
+    rw (ap (λ (p : ℕ × ℕ). p.0) e, ap (λ (p : ℕ × ℕ). p.1) e)
 told_share (Accept l) start len h = absurd (let z : ◌≡◌ {A = ℕ} 0 1 = cc in omega arith)
 told_share (Reject l) start len h = absurd (let z : ◌≡◌ {A = ℕ} 0 1 = cc in omega arith)
 told_share (RejectFor l other) start len h = absurd (let z : ◌≡◌ {A = ℕ} 0 1 = cc in omega arith)

@@ -16,9 +16,7 @@ ghost use Rattle.load_pass.specs.Holding.{Holding, Past, Coming, Read, Listed};
 
 use committee::Stake;
 use final_readings_spec::Reading;
-use load_along::Ahead;
 use record_cursor::StatementCursor;
-use store_payload::SharePlace;
 use types::{TransactionLocator, TransactionLocatorRange};
 
 // Up to which statement the block of the entry at a position was read.
@@ -58,7 +56,7 @@ fn list_run(
             continue;
         }
         let statement = next.statement;
-        let SharePlace::Payload(start, len) = store_payload::share_place(statement) else {
+        let Some((start, len)) = store_payload::share_place(statement) else {
             // Never so: the stretch holds shares.
             continue;
         };
@@ -144,7 +142,7 @@ pub fn list_all(
             stakes, store, order, &sets, along, &mut edges, &mut lanes,
         );
         let ahead = step.ahead;
-        let Ahead::Stretch(range) = ahead else {
+        let Some(range) = ahead else {
             return n;
         };
         let reached = list_stretch(store, order, read, range, places, n);

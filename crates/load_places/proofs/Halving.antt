@@ -15,7 +15,7 @@ use Rattle.base.proofs.Narrowed.{Narrowed, narrowed_all}
 use Rattle.record_spec.specs.Reference.{TransactionLocator, locator, same_locator, locator_before}
 use Rattle.record_spec.proofs.References.{locator_same, same_locator_lem, locator_irrefl, locator_total}
 use Rattle.types.specs.Values.{locator_order}
-use Rattle.types.specs.declared.Ordering.TheVariants.{Less, Equal, Greater}
+use Rattle.std.specs.declared.cmp.Ordering.TheVariants.{Less, Equal, Greater}
 use Rattle.store_spec.specs.Entry.{block_at}
 use Rattle.types.proofs.Words.{order_less, order_equal, order_greater}
 use Rattle.load_spec.specs.Question.{named_by}

@@ -12,8 +12,8 @@ ghost use Rattle.load_spec.specs.Question.{named_by};
 ghost use Rattle.load_needed.specs.Answers.{as_needed};
 ghost use Rattle.load_places.specs.Listed.{place_at, Listed, met_by};
 
-use load_needed::Needed;
-use types::{Ordering, TransactionLocator};
+use std::cmp::Ordering;
+use types::TransactionLocator;
 
 // The share that a place names.
 fn share_at(store: &[u8], places: &[u64], i: usize) -> TransactionLocator
@@ -54,11 +54,17 @@ fn is_listed(store: &[u8], places: &[u64], n: usize, share: TransactionLocator) 
 }
 
 // Whether what a share needs, if anything, is of a lower round and at one of the first n places.
-fn is_met(store: &[u8], places: &[u64], n: usize, share: TransactionLocator, needed: Needed) -> bool
+fn is_met(
+    store: &[u8],
+    places: &[u64],
+    n: usize,
+    share: TransactionLocator,
+    needed: Option<TransactionLocator>,
+) -> bool
     requires { Listed store.now places.now n }
     ensures { result ≡ met (λ m. any_of (same_locator m) (named_by store.now n places.now)) (as_locator share) (as_needed needed) }
 {
-    let Needed::Change(change) = needed else {
+    let Some(change) = needed else {
         return true;
     };
     if share.block.round.0 <= change.block.round.0 {

@@ -12,18 +12,11 @@ ghost use Rattle.load_spec.specs.Loadable.{is_loadable_in};
 ghost use Rattle.load_spec.specs.Question.{loadable_question_in};
 ghost use Rattle.load_question.specs.Answers.{as_loadable};
 
-use committee::{NewCommittee, Stake};
+use base::Refusal;
+use committee::Stake;
 use final_readings_spec::Reading;
 use load_chain::Sight;
 use types::TransactionLocator;
-
-// Whether a stored share is loadable, or the refusal number.
-#[derive(Clone, Copy)]
-pub enum LoadableAnswer {
-    Loadable,
-    NotLoadable,
-    Refused(u64),
-}
 
 // Whether a locator is final.
 fn is_final(
@@ -96,25 +89,27 @@ pub fn is_loadable_in(
     store: &[u8],
     reading: Reading,
     locator: TransactionLocator,
-) -> LoadableAnswer
+) -> Result<bool, Refusal>
     ensures { as_loadable result ≡ loadable_question_in (as_reading reading) stakes.now store.now (as_locator locator) }
 {
-    let NewCommittee::Taken(total) = committee::new_committee(stakes) else {
-        return LoadableAnswer::Refused(5);
+    let Ok(total) = committee::new_committee(stakes) else {
+        return Err(Refusal::BrokenCommittee);
     };
     if !store_order::in_order(stakes, store) {
-        return LoadableAnswer::Refused(10);
+        return Err(Refusal::StoreNotInOrder);
     }
     let mut order = [0u64; types::MAX_BLOCKS];
     let count = final_block_votes::sorted_positions(store, &mut order);
-    if asked_ready(stakes, total, store, &order[..count], reading, locator) {
-        return LoadableAnswer::Loadable;
-    }
-    LoadableAnswer::NotLoadable
+    let ready = asked_ready(stakes, total, store, &order[..count], reading, locator);
+    Ok(ready)
 }
 
 // The same in the old reading.
-pub fn is_loadable(stakes: &[u64], store: &[u8], locator: TransactionLocator) -> LoadableAnswer
+pub fn is_loadable(
+    stakes: &[u64],
+    store: &[u8],
+    locator: TransactionLocator,
+) -> Result<bool, Refusal>
     ensures { as_loadable result ≡ loadable_question_in old stakes.now store.now (as_locator locator) }
 {
     is_loadable_in(stakes, store, Reading::Old, locator)
@@ -125,7 +120,7 @@ pub fn is_loadable_withdrawing(
     stakes: &[u64],
     store: &[u8],
     locator: TransactionLocator,
-) -> LoadableAnswer
+) -> Result<bool, Refusal>
     ensures { as_loadable result ≡ loadable_question_in withdrawing stakes.now store.now (as_locator locator) }
 {
     is_loadable_in(stakes, store, Reading::Withdrawing, locator)

@@ -32,13 +32,11 @@ pub fn count_shares(stakes: &[u64], store: &[u8], order: &[u64]) -> usize
     ensures { result ≡ length (stored_shares (blocks_of store.now)) }
 {
     let mut n: usize = 0;
-    let mut k: usize = 0;
-    while k < order.len() {
+    for k in 0..order.len() {
         let at = order[k] as usize;
         let from = at + 8;
         let end = store_entries::record_end(store, at);
         n += shares_in(&store[from..end]);
-        k += 1;
     }
     n
 }

@@ -10,8 +10,6 @@ use lib.Seq.{length-take-le, get_or-take, get_or-drop, get_or-set_same, sets, le
 use borrow.Author.Tests.{lt-ltb, le-ltb}
 use Rattle.base.proofs.Tests.{fails}
 use Rattle.base.proofs.Index.{get_d_right}
-use Rattle.pending_search.specs.declared.Found.{Found}
-use Rattle.pending_search.specs.declared.Found.TheVariants.{At, Nothing}
 use Rattle.pending_spec.specs.Items.{Item, no_item, item_holds, falls_inside, front_of, back_of, cut_item, cut_at, both_cuts}
 use Rattle.pending_spec.specs.Table.{item_words, table_of, items_of, HoldsItems}
 use Rattle.pending_search.specs.Answers.{FoundBy, at_index, nowhere}
@@ -19,6 +17,7 @@ use Rattle.pending_words.specs.Step.{slot, MovedUp, in_two}
 use Rattle.pending_spec.proofs.Items.{Ordered, Cut, two, complete, cut}
 use Rattle.pending_words.proofs.Slots.{put_same, put_other, counted_slot, Holding, holding_table, holds_ordered}
 use Rattle.pending_search.proofs.Finds.{holds_from, inside_facts, inside_from, one_holds}
+use Rattle.std.specs.Prelude.{None, Some, Option}
 
 -- ---- one item in two parts
 
@@ -119,10 +118,10 @@ cut_one p o (x ∷ xs) (suc i) h e f =
 inside_holds : (p o : ℕ) (x : Item) → falls_inside p o x ≡ true → item_holds p o x ≡ true
 inside_holds p o x h = let k = inside_facts p o x h in holds_from p o x k.0 (omega (arith, k.1)) k.2
 
-pub cut_nowhere : (p o : ℕ) (xs : List Item) → FoundBy (falls_inside p o) xs Nothing → cut_at p o xs ≡ xs
+pub cut_nowhere : (p o : ℕ) (xs : List Item) → FoundBy (falls_inside p o) xs None → cut_at p o xs ≡ xs
 cut_nowhere p o xs (nowhere f) = cut_none p o xs f
 
-pub cut_there : (p o : ℕ) (xs : List Item) (i : ℕ) → Ordered xs → FoundBy (falls_inside p o) xs (At i) → cut_at p o xs ≡ in_two xs i o
+pub cut_there : (p o : ℕ) (xs : List Item) (i : ℕ) → Ordered xs → FoundBy (falls_inside p o) xs (Some i) → cut_at p o xs ≡ in_two xs i o
 cut_there p o xs i ord (at_index j h e) =
     cut_one p o xs i h e
     (λ k l g. fails (falls_inside p o (get_or xs k no_item)) (λ d. g (one_holds xs ord p o k i l h (inside_holds p o _ d) (inside_holds p o _ e))))
@@ -177,21 +176,21 @@ uncut p s e xs h = rw (le-ltb s e h)
 
 -- ---- what was found, at a cut
 
-found_index : (test : Item → Bool) (xs : List Item) (i : ℕ) → FoundBy test xs (At i) → i < length xs
+found_index : (test : Item → Bool) (xs : List Item) (i : ℕ) → FoundBy test xs (Some i) → i < length xs
 found_index test xs i (at_index j h e) = h
 
-module _ (t : List ℕ) (h : HoldsItems t) (p o : ℕ) (r : Found) (f : FoundBy (falls_inside p o) (items_of t) r) where
-  pub cut_absent : r ≡ Nothing → t ≡ table_of (length t) (cut_at p o (items_of t))
+module _ (t : List ℕ) (h : HoldsItems t) (p o : ℕ) (r : Option ℕ) (f : FoundBy (falls_inside p o) (items_of t) r) where
+  pub cut_absent : r ≡ None → t ≡ table_of (length t) (cut_at p o (items_of t))
   cut_absent e = rw (cut_nowhere p o (items_of t) (rw e at f)) h.laid
 
-  pub length_absent : r ≡ Nothing → length (cut_at p o (items_of t)) ≡ length (items_of t) + 0
+  pub length_absent : r ≡ None → length (cut_at p o (items_of t)) ≡ length (items_of t) + 0
   length_absent e = rw (cut_nowhere p o (items_of t) (rw e at f)) (omega arith)
 
-  pub cut_index : (i : ℕ) → r ≡ At i → i < length (items_of t)
+  pub cut_index : (i : ℕ) → r ≡ Some i → i < length (items_of t)
   cut_index i e = found_index (falls_inside p o) (items_of t) i (rw e at f)
 
-  pub cut_present : (i : ℕ) → r ≡ At i → cut_at p o (items_of t) ≡ in_two (items_of t) i o
+  pub cut_present : (i : ℕ) → r ≡ Some i → cut_at p o (items_of t) ≡ in_two (items_of t) i o
   cut_present i e = cut_there p o (items_of t) i (holds_ordered t h) (rw e at f)
 
-  pub length_present : (i : ℕ) → r ≡ At i → length (cut_at p o (items_of t)) ≡ length (items_of t) + 1
+  pub length_present : (i : ℕ) → r ≡ Some i → length (cut_at p o (items_of t)) ≡ length (items_of t) + 1
   length_present i e = rw (cut_present i e) (length_split (items_of t) i o (cut_index i e))

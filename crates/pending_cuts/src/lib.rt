@@ -7,7 +7,6 @@ ghost use Rattle.pending_spec.specs.Table.{table_of, items_of, HoldsItems};
 ghost use Rattle.pending_words.specs.Answers.{as_item};
 ghost use Rattle.pending_words.specs.Step.{in_two};
 
-use pending_search::Found;
 use pending_words::Item;
 
 // The part of an item before o.
@@ -54,7 +53,7 @@ pub fn cut_at(t: &mut [u64], p: u64, o: u64)
     requires { HoldsItems t.old × (6 * length (cut_at p o (items_of t.old)) < length t.old) }
     ensures { t.new ≡ table_of (length t.old) (cut_at p o (items_of t.old)) }
 {
-    let Found::At(i) = pending_search::inside(t, p, o) else {
+    let Some(i) = pending_search::inside(t, p, o) else {
         return;
     };
     split_item(t, i, o);
@@ -65,7 +64,7 @@ fn cuts_at(t: &[u64], p: u64, o: u64) -> usize
     requires { HoldsItems t.now }
     ensures { (length (cut_at p o (items_of t.now)) ≡ length (items_of t.now) + result) × (result ≤ 1) }
 {
-    let Found::At(_) = pending_search::inside(t, p, o) else {
+    let Some(_) = pending_search::inside(t, p, o) else {
         return 0;
     };
     1

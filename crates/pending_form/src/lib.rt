@@ -16,12 +16,10 @@ use pending_words::Item;
 fn zero_from(t: &[u64], from: usize) -> bool
     ensures { result ≡ not (any_of (ltb 0) (drop from t.now)) }
 {
-    let mut i = from;
-    while i < t.len() {
+    for i in from..t.len() {
         if 0 < t[i] {
             return false;
         }
-        i += 1;
     }
     true
 }
@@ -75,12 +73,10 @@ fn ascending(t: &[u64]) -> bool
     ensures { result ≡ pairwise item_before (items_of t.now) && all_of item_full (items_of t.now) }
 {
     let n = pending_words::item_count(t);
-    let mut k = 0;
-    while k < n {
+    for k in 0..n {
         if !stands_at(t, k) {
             return false;
         }
-        k += 1;
     }
     true
 }
@@ -91,14 +87,12 @@ fn votes_in_order(stakes: &[u64], t: &[u64]) -> bool
     ensures { result ≡ all_of (λ x. aggregator_in_order stakes.now x.aggregator) (items_of t.now) }
 {
     let n = pending_words::item_count(t);
-    let mut k = 0;
-    while k < n {
+    for k in 0..n {
         let x = pending_words::item_at(t, k);
         let votes = x.aggregator;
         if !votes.in_order(stakes) {
             return false;
         }
-        k += 1;
     }
     true
 }

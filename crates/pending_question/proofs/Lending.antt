@@ -22,8 +22,6 @@ use Rattle.store_spec.proofs.Check.{order_checked}
 use Rattle.pending_spec.specs.Items.{Item, no_item, item_holds, item_at}
 use Rattle.pending_spec.specs.Table.{HoldsItems, items_of, table_in_order}
 use Rattle.pending_search.specs.Answers.{FoundBy, at_index, nowhere, found_item}
-use Rattle.pending_search.specs.declared.Found.{Found}
-use Rattle.pending_search.specs.declared.Found.TheVariants.{At, Nothing}
 use Rattle.pending_spec.proofs.Items.{Ordered}
 use Rattle.pending_words.proofs.Slots.{holds_ordered}
 use Rattle.pending_search.proofs.Finds.{found_item_lem}
@@ -32,6 +30,7 @@ use Rattle.pending_votes.proofs.Voting.{formed}
 use Rattle.feed_spec.specs.Pending.{pending_checks, standing_of, standing_at, pending}
 use Rattle.feed_spec.proofs.Checks.{pending_numbered}
 use borrow.Author.Tests.{not-false}
+use Rattle.std.specs.Prelude.{None, Some, Option}
 
 -- a store in order can be read, and its chain is right
 pub order_laid : (c : Committee) (s : Bytes) → AllBytes s → store_in_order c s ≡ true → laid_out s ≡ true
@@ -97,32 +96,32 @@ module _ (c : Committee) (s : Bytes) (t : List ℕ) where
   answers_standing l h = rw (lying h).passing
 
 -- the index that was found
-pub index_found : (test : Item → Bool) (xs : List Item) (r : Found) (i : ℕ) → FoundBy test xs r → r ≡ At i → i < length xs
+pub index_found : (test : Item → Bool) (xs : List Item) (r : Option ℕ) (i : ℕ) → FoundBy test xs r → r ≡ Some i → i < length xs
 index_found test xs r i (at_index j l e) q = let z : j ≡ i = cc in omega arith
 index_found test xs r i (nowhere f) q = let z : ◌≡◌ {A = ℕ} 0 1 = cc in absurd (omega arith)
 
 -- what stands at an offset, by what was found
-module _ (xs : List Item) (o : Ordered xs) (p q : ℕ) (r : Found) (f : FoundBy (item_holds p q) xs r) where
-  pub at_none : r ≡ Nothing → item_at xs p q ≡ none
+module _ (xs : List Item) (o : Ordered xs) (p q : ℕ) (r : Option ℕ) (f : FoundBy (item_holds p q) xs r) where
+  pub at_none : r ≡ None → item_at xs p q ≡ none
   unfolding found_item
   at_none e = found_item_lem xs o p q r f ∙ rw e
 
-  pub at_some : (i : ℕ) → r ≡ At i → item_at xs p q ≡ some (get_or xs i no_item)
+  pub at_some : (i : ℕ) → r ≡ Some i → item_at xs p q ≡ some (get_or xs i no_item)
   unfolding found_item
   at_some i e = found_item_lem xs o p q r f ∙ rw e
 
-module _ (s : Bytes) (t : List ℕ) (l : TransactionLocator) (p : ℕ) (r : Found) (h : HoldsItems t)
+module _ (s : Bytes) (t : List ℕ) (l : TransactionLocator) (p : ℕ) (r : Option ℕ) (h : HoldsItems t)
     (e : p ≡ position_of (lookup (entries (records_of s)) l.block))
     (f : FoundBy (item_holds p l.offset) (items_of t) r) where
   stands : standing_at s t l ≡ standing_of (found_item (items_of t) r)
   unfolding standing_at
   stands = rw (← e, found_item_lem (items_of t) (holds_ordered t h) p l.offset r f)
 
-  pub standing_none : r ≡ Nothing → standing_at s t l ≡ refused 42
+  pub standing_none : r ≡ None → standing_at s t l ≡ refused 42
   unfolding standing_of found_item
   standing_none q = stands ∙ rw q
 
-  pub standing_some : (i : ℕ) (x : Item) → r ≡ At i → x ≡ get_or (items_of t) i no_item
+  pub standing_some : (i : ℕ) (x : Item) → r ≡ Some i → x ≡ get_or (items_of t) i no_item
       → standing_at s t l ≡ answered (record { stake = x.aggregator.stake; voters = number_of_voters x.aggregator.votes })
   unfolding standing_of found_item
   standing_some i x q d = stands ∙ rw (q, ← d)

@@ -16,10 +16,11 @@ ghost use Rattle.pending_words.specs.Answers.{as_item};
 ghost use Rattle.feed_spec.specs.Pending.{standing_at, pending, pending_checks};
 ghost use Rattle.pending_question.specs.Answers.{as_pending};
 ghost use Rattle.pending_question.specs.Step.{NotPast, OnEntry, Passed, EntryFrom, Ahead, WalkedTo};
+ghost use Rattle.base.specs.Refusals.{refusal_in};
 ghost use Rattle.base.specs.Checks.{refusal};
 
-use committee::{NewCommittee, Stake};
-use pending_search::Found;
+use base::Refusal;
+use committee::Stake;
 use pending_words::Item;
 use record_cursor::StatementCursor;
 use types::TransactionLocator;
@@ -84,14 +85,12 @@ fn shares_in(rec: &[u8], from: StatementCursor, start: u64, end: u64) -> Shares
     ensures { (result.all ≡ shares_in (block_in rec.now) start end) × (result.all ≡ true → NotPast rec.now end result.cursor) }
 {
     let mut cursor = from;
-    let mut o = start;
-    while o < end {
+    for o in start..end {
         let found = share_at(rec, cursor, o);
         cursor = found.cursor;
         if !found.share {
             return Shares { all: false, cursor };
         }
-        o += 1;
     }
     Shares { all: true, cursor }
 }
@@ -186,15 +185,13 @@ fn items_stored(store: &[u8], table: &[u64]) -> bool
         last: 0,
         cursor: StatementCursor { at: 0, index: 0 },
     };
-    let mut k = 0;
-    while k < n {
+    for k in 0..n {
         let x = pending_words::item_at(table, k);
         let found = item_stored(store, x, walk);
         if !found.stored {
             return false;
         }
         walk = found.walk;
-        k += 1;
     }
     true
 }
@@ -210,63 +207,57 @@ fn table_in_order(stakes: &[u64], store: &[u8], table: &[u64]) -> bool
     items_stored(store, table)
 }
 
-// 5, 10, 11: what every call checks that is lent a committee, a store and a table; 0 where none applies.
-pub fn lent_refusal(stakes: &[u64], store: &[u8], table: &[u64]) -> u64
-    ensures first { result ≡ refusal (pending_checks stakes.now store.now table.now) }
-    ensures laid { result ≡ 0 → laid_out store.now ≡ true }
+// 5, 10, 11: what every call checks that is lent a committee, a store and a table.
+pub fn lent_refusal(stakes: &[u64], store: &[u8], table: &[u64]) -> Result<(), Refusal>
+    ensures first { refusal_in result ≡ refusal (pending_checks stakes.now store.now table.now) }
+    ensures laid { refusal_in result ≡ 0 → laid_out store.now ≡ true }
 {
-    let NewCommittee::Taken(_) = committee::new_committee(stakes) else {
-        return 5;
+    let Ok(_) = committee::new_committee(stakes) else {
+        return Err(Refusal::BrokenCommittee);
     };
     if !store_order::in_order(stakes, store) {
-        return 10;
+        return Err(Refusal::StoreNotInOrder);
     }
     if !table_in_order(stakes, store, table) {
-        return 11;
+        return Err(Refusal::TableNotInOrder);
     }
-    0
+    Ok(())
 }
 
 // ---- the pending question
 
-// The stake and the number of voters of a pending locator, or a refusal.
-#[derive(Clone, Copy)]
-pub enum PendingAnswer {
-    Standing(Stake, u64),
-    Refused(u64),
-}
-
 // Of a store and a table in order: what stands at a locator.
-fn standing(store: &[u8], table: &[u64], locator: TransactionLocator) -> PendingAnswer
+fn standing(
+    store: &[u8],
+    table: &[u64],
+    locator: TransactionLocator,
+) -> Result<(Stake, u64), Refusal>
     requires { (laid_out store.now ≡ true) × HoldsItems table.now }
     ensures { as_pending result ≡ standing_at store.now table.now (as_locator locator) }
 {
     let block = locator.block;
     let p = store_lookup::lookup(store, block) as u64;
     let found = pending_search::holding(table, p, locator.offset);
-    let Found::At(i) = found else {
-        return PendingAnswer::Refused(42);
+    let Some(i) = found else {
+        return Err(Refusal::NotPending);
     };
     let x = pending_words::item_at(table, i);
     let aggregator = x.aggregator;
     let votes = aggregator.votes;
     let stake = aggregator.stake;
     let voters = votes.count();
-    PendingAnswer::Standing(stake, voters)
+    Ok((stake, voters))
 }
 
-// Asks for a pending locator.
+// Asks for a pending locator: its stake and its number of voters, or a refusal.
 pub fn pending(
     stakes: &[u64],
     store: &[u8],
     table: &[u64],
     locator: TransactionLocator,
-) -> PendingAnswer
+) -> Result<(Stake, u64), Refusal>
     ensures { as_pending result ≡ pending stakes.now store.now table.now (as_locator locator) }
 {
-    let refusal = lent_refusal(stakes, store, table);
-    if refusal != 0 {
-        return PendingAnswer::Refused(refusal);
-    }
+    lent_refusal(stakes, store, table)?;
     standing(store, table, locator)
 }

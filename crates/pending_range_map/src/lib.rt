@@ -8,7 +8,7 @@ ghost use Rattle.pending_spec.specs.Items.{first_vote, stays};
 ghost use Rattle.pending_spec.specs.Table.{table_of, items_of, HoldsItems, room};
 ghost use Rattle.pending_words.specs.Answers.{as_item};
 
-use committee::{AuthorityIndex, FoundStake, Stake};
+use committee::{AuthorityIndex, Stake};
 use committee_aggregator::StakeAggregator;
 use pending_words::Item;
 
@@ -33,12 +33,10 @@ pub fn leave(total: Stake, t: &mut [u64], p: u64, start: u64, end: u64)
 {
     let n = pending_words::item_count(t);
     let mut kept = 0;
-    let mut k = 0;
-    while k < n {
+    for k in 0..n {
         let x = pending_words::read_item(t, k);
         pending_words::put_item(t, kept, x);
         kept += staying(x, total, p, start, end);
-        k += 1;
     }
     pending_words::clear(t, kept, n);
     t[0] = kept as u64;
@@ -52,7 +50,7 @@ pub fn register(stakes: &[u64], t: &mut [u64], a: AuthorityIndex, p: u64, start:
     requires room { length (items_of t.old) < room t.old }
     ensures { t.new ≡ table_of (length t.old) (items_of t.old ++ first_vote stakes.now a.0 p start end ∷ []) }
 {
-    let FoundStake::Known(stake) = committee::get_stake(stakes, a) else {
+    let Some(stake) = committee::get_stake(stakes, a) else {
         return;
     };
     let n = pending_words::item_count(t);

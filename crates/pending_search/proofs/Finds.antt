@@ -13,14 +13,13 @@ use Rattle.base.proofs.Tests.{and_left, and_right, fails}
 use Rattle.base.proofs.Places.{every_place, pairs_places}
 use Rattle.base.proofs.Index.{find_at, find_no}
 use Rattle.record_spec.proofs.Ranges.{within_yes}
-use Rattle.pending_search.specs.declared.Found.{Found}
-use Rattle.pending_search.specs.declared.Found.TheVariants.{At, Nothing}
 use Rattle.pending_spec.specs.Items.{Item, no_item, item_holds, item_at, falls_inside}
 use Rattle.pending_search.specs.Answers.{FoundBy, at_index, nowhere, found_item, Constant}
 use Rattle.pending_search.specs.Step.{Parted}
 use Rattle.pending_spec.proofs.Items.{Ordered, before_facts, holds_facts}
 use Rattle.pending_words.proofs.Slots.{Full}
 use Rattle.pending_search.proofs.Halves.{ends_facts, ahead_facts}
+use Rattle.std.specs.Prelude.{None, Some, Option}
 
 pub holds_from : (p o : ℕ) (x : Item) → x.position ≡ p → x.start ≤ o → o < x.end → item_holds p o x ≡ true
 unfolding item_holds
@@ -61,7 +60,7 @@ one_holds xs ord p o i j h k a b = go (dec_lt i j) (dec_lt j i)
     go (no l) (no m) = omega arith
 
 -- the item that was found is the item there
-pub found_item_lem : (xs : List Item) → Ordered xs → (p o : ℕ) (r : Found) → FoundBy (item_holds p o) xs r → item_at xs p o ≡ found_item xs r
+pub found_item_lem : (xs : List Item) → Ordered xs → (p o : ℕ) (r : Option ℕ) → FoundBy (item_holds p o) xs r → item_at xs p o ≡ found_item xs r
 unfolding item_at found_item
 found_item_lem xs ord p o r (at_index i h e) =
     find_at no_item (item_holds p o) xs i h
@@ -112,25 +111,25 @@ module _ (p o : ℕ) (xs : List Item) (i : ℕ) (part : Parted p o xs i) (ord : 
       go (inl k) = absurd (omega (arith, e))
       go (inr k) = k.1
 
-  pub held_here : i < length xs → here.position ≡ p → here.start ≤ o → FoundBy (item_holds p o) xs (At i)
+  pub held_here : i < length xs → here.position ≡ p → here.start ≤ o → FoundBy (item_holds p o) xs (Some i)
   held_here h e k = at_index i h (holds_from p o here e k (past h e))
 
-  pub inside_here : i < length xs → here.position ≡ p → here.start < o → FoundBy (falls_inside p o) xs (At i)
+  pub inside_here : i < length xs → here.position ≡ p → here.start < o → FoundBy (falls_inside p o) xs (Some i)
   inside_here h e k = at_index i h (inside_from p o here e k (past h e))
 
-  pub not_held : (q : ℕ) → o ≤ q → (i < length xs → (here.position ≡ p → ⊥) ⊎ (q < here.start)) → FoundBy (item_holds p q) xs Nothing
+  pub not_held : (q : ℕ) → o ≤ q → (i < length xs → (here.position ≡ p → ⊥) ⊎ (q < here.start)) → FoundBy (item_holds p q) xs None
   not_held q h f = nowhere (λ j l. fails (item_holds p q (get_or xs j no_item))
       (λ e. let k = holds_facts p q (get_or xs j no_item) e in no_touch q (suc q) h f j l k.0 (omega (arith, k.1)) k.2))
 
-  pub not_inside : (i < length xs → (here.position ≡ p → ⊥) ⊎ (o ≤ here.start)) → FoundBy (falls_inside p o) xs Nothing
+  pub not_inside : (i < length xs → (here.position ≡ p → ⊥) ⊎ (o ≤ here.start)) → FoundBy (falls_inside p o) xs None
   not_inside f = nowhere (λ j l. fails (falls_inside p o (get_or xs j no_item))
       (λ e. let k = inside_facts p o (get_or xs j no_item) e in no_touch o o (omega arith) f j l k.0 k.1 k.2))
 
   -- nothing stands from o up to s
   pub gap_same : (s : ℕ) → o < s → (i < length xs → (here.position ≡ p → ⊥) ⊎ (s ≤ here.start)) → (q : ℕ) → o ≤ q → q < s → item_at xs p q ≡ item_at xs p o
   unfolding found_item
-  gap_same s h f q k l = found_item_lem xs ord p q Nothing (not_held q k (λ m. later q (omega arith) (f m))) ∙ sym
-      (found_item_lem xs ord p o Nothing (not_held o (omega arith) (λ m. later o h (f m))))
+  gap_same s h f q k l = found_item_lem xs ord p q None (not_held q k (λ m. later q (omega arith) (f m))) ∙ sym
+      (found_item_lem xs ord p o None (not_held o (omega arith) (λ m. later o h (f m))))
     where
       later : (r : ℕ) → r < s → (here.position ≡ p → ⊥) ⊎ (s ≤ here.start) → (here.position ≡ p → ⊥) ⊎ (r < here.start)
       later r a (inl g) = inl g
@@ -140,11 +139,11 @@ module _ (p o : ℕ) (xs : List Item) (i : ℕ) (part : Parted p o xs i) (ord : 
   pub held_same : i < length xs → here.position ≡ p → here.start ≤ o → (q : ℕ) → o ≤ q → q < here.end → item_at xs p q ≡ item_at xs p o
   unfolding found_item
   held_same h e k q a b =
-      found_item_lem xs ord p q (At i) (at_index i h (holds_from p q here e (omega arith) b)) ∙ sym (found_item_lem xs ord p o (At i) (held_here h e k))
+      found_item_lem xs ord p q (Some i) (at_index i h (holds_from p q here e (omega arith) b)) ∙ sym (found_item_lem xs ord p o (Some i) (held_here h e k))
 
   -- so what was found goes for a stretch
   pub gap_constant : (s end : ℕ) → o < s → s ≤ end → (i < length xs → (here.position ≡ p → ⊥) ⊎ (s ≤ here.start)) → Constant xs p o end
-      (record { found = Nothing; end = s })
+      (record { found = None; end = s })
   gap_constant s end h k f = record { found = not_held o (omega arith) (λ m. later (f m)); onward = h; most = k; same = gap_same s h f }
     where
       later : (here.position ≡ p → ⊥) ⊎ (s ≤ here.start) → (here.position ≡ p → ⊥) ⊎ (o < here.start)
@@ -152,6 +151,6 @@ module _ (p o : ℕ) (xs : List Item) (i : ℕ) (part : Parted p o xs i) (ord : 
       later (inr g) = inr (omega arith)
 
   pub held_constant : (s end : ℕ) → i < length xs → here.position ≡ p → here.start ≤ o → o < s → s ≤ end → s ≤ here.end
-      → Constant xs p o end (record { found = At i; end = s })
+      → Constant xs p o end (record { found = Some i; end = s })
   held_constant s end h e k l m n =
       record { found = held_here h e k; onward = l; most = m; same = λ q a (b : q < s). held_same h e k q a (omega arith) }

@@ -10,17 +10,10 @@ ghost use Rattle.pending_search.specs.Step.{ends_before, Parted};
 
 use pending_words::Item;
 
-// An item, by its index, if there is one.
-#[derive(Clone, Copy)]
-pub enum Found {
-    At(usize),
-    Nothing,
-}
-
 // What stands at an offset, and the end (excluded) of the offsets at which it stands.
 #[derive(Clone, Copy)]
 pub struct ItemStretch {
-    pub found: Found,
+    pub found: Option<usize>,
     pub end: u64,
 }
 
@@ -55,42 +48,42 @@ fn search(t: &[u64], p: u64, o: u64) -> usize
     low
 }
 
-// The item that holds the offset o of the entry at p.
-pub fn holding(t: &[u64], p: u64, o: u64) -> Found
+// The item that holds the offset o of the entry at p, by its index, if there is one.
+pub fn holding(t: &[u64], p: u64, o: u64) -> Option<usize>
     requires { HoldsItems t.now }
     ensures { FoundBy (item_holds p o) (items_of t.now) result }
 {
     let i = search(t, p, o);
     if pending_words::item_count(t) <= i {
-        return Found::Nothing;
+        return None;
     }
     let x = pending_words::item_at(t, i);
     if x.position != p {
-        return Found::Nothing;
+        return None;
     }
     if o < x.start {
-        return Found::Nothing;
+        return None;
     }
-    Found::At(i)
+    Some(i)
 }
 
-// The item that the offset o of the entry at p falls inside of.
-pub fn inside(t: &[u64], p: u64, o: u64) -> Found
+// The item that the offset o of the entry at p falls inside of, by its index, if there is one.
+pub fn inside(t: &[u64], p: u64, o: u64) -> Option<usize>
     requires { HoldsItems t.now }
     ensures { FoundBy (falls_inside p o) (items_of t.now) result }
 {
     let i = search(t, p, o);
     if pending_words::item_count(t) <= i {
-        return Found::Nothing;
+        return None;
     }
     let x = pending_words::item_at(t, i);
     if x.position != p {
-        return Found::Nothing;
+        return None;
     }
     if o <= x.start {
-        return Found::Nothing;
+        return None;
     }
-    Found::At(i)
+    Some(i)
 }
 
 // What stands at the offset o of the entry at p, and up to where: the end of the item that holds it, the start of the next, or `end`.
@@ -100,26 +93,20 @@ pub fn stretch_at(t: &[u64], p: u64, o: u64, end: u64) -> ItemStretch
 {
     let i = search(t, p, o);
     if pending_words::item_count(t) <= i {
-        return ItemStretch {
-            found: Found::Nothing,
-            end,
-        };
+        return ItemStretch { found: None, end };
     }
     let x = pending_words::item_at(t, i);
     if x.position != p {
-        return ItemStretch {
-            found: Found::Nothing,
-            end,
-        };
+        return ItemStretch { found: None, end };
     }
     if o < x.start {
         return ItemStretch {
-            found: Found::Nothing,
+            found: None,
             end: smaller(x.start, end),
         };
     }
     ItemStretch {
-        found: Found::At(i),
+        found: Some(i),
         end: smaller(x.end, end),
     }
 }

@@ -8,7 +8,7 @@ ghost use Rattle.pending_spec.specs.Table.{table_of, items_of, HoldsItems, room,
 ghost use Rattle.pending_words.specs.Answers.{as_item};
 ghost use Rattle.pending_words.specs.Step.{Countable, voted_in};
 
-use committee::{AuthorityIndex, FoundStake, Stake};
+use committee::{AuthorityIndex, Stake};
 use pending_words::Item;
 
 // Whether an item lies in start..end of the entry at p.
@@ -47,11 +47,9 @@ fn vote_items(t: &mut [u64], a: AuthorityIndex, stake: Stake, p: u64, start: u64
     ensures { t.new ≡ table_of (length t.old) (map (voted_in stake.0 a.0 p start end) (items_of t.old)) }
 {
     let n = pending_words::item_count(t);
-    let mut k = 0;
-    while k < n {
+    for k in 0..n {
         let x = pending_words::read_item(t, k);
         pending_words::put_item(t, k, vote_item(x, a, stake, p, start, end));
-        k += 1;
     }
 }
 
@@ -66,7 +64,7 @@ pub fn vote_over(stakes: &[u64], t: &mut [u64], a: AuthorityIndex, p: u64, start
     if end <= start {
         return;
     }
-    let FoundStake::Known(stake) = committee::get_stake(stakes, a) else {
+    let Some(stake) = committee::get_stake(stakes, a) else {
         return;
     };
     pending_cuts::cut_at(t, p, start);

@@ -117,9 +117,7 @@ pub fn clear(t: &mut [u64], i: usize, n: usize)
     requires { (i ≤ n) × (6 * n < length t.old) }
     ensures { Cleared t.old i n t.new }
 {
-    let mut k = i;
-    while k < n {
+    for k in i..n {
         put_item(t, k, no_item());
-        k += 1;
     }
 }

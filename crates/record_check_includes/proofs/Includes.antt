@@ -18,19 +18,19 @@ use Rattle.committee.specs.Committee.{AuthorityIndex, Committee, known, get_stak
 use Rattle.committee_set.specs.AuthoritySet.{nobody, inserted, set_of}
 use Rattle.committee.specs.Answers.{found_stake}
 use Rattle.committee.specs.declared.Stake as stakes
-use Rattle.committee.specs.declared.FoundStake.TheVariants.{Known, Unknown}
 use Rattle.record_spec.specs.Reference.{BlockReference}
 use Rattle.record_spec.specs.Block.{Block}
 use Rattle.record_spec.specs.Record.{no_reference}
 use Rattle.record_spec.specs.Verify.{include_checks, previous_authors}
+use Rattle.std.specs.Prelude.{None, Some}
 
 -- ---- the lookup of a stake
 
-pub lookup_known : (c : Committee) (a : AuthorityIndex) (s : stakes.Stake) → found_stake c a ≡ Known s → known c a ≡ true
+pub lookup_known : (c : Committee) (a : AuthorityIndex) (s : stakes.Stake) → found_stake c a ≡ Some s → known c a ≡ true
 unfolding found_stake
 lookup_known c a s h = go (known c a) h
   where
-    go : (t : Bool) → pick t (Known (record { 0 = get_stake c a })) Unknown ≡ Known s → t ≡ true
+    go : (t : Bool) → pick t (Some (record { 0 = get_stake c a })) None ≡ Some s → t ≡ true
     go true e = refl
     go false e = absurd (let z : ◌≡◌ {A = ℕ} 0 1 = cc in omega arith)
 

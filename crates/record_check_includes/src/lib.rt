@@ -6,34 +6,34 @@ ghost use Rattle.std.specs.Prelude.{◌≡◌, true, false, ◌+◌, ◌<◌, eq
 ghost use mathlib.Core.List.{map, flatten};
 ghost use Rattle.base.specs.Lists.{pick};
 ghost use Rattle.base.specs.Checks.{refusal, passes};
+ghost use Rattle.base.specs.Refusals.{refusal_in};
 ghost use Rattle.committee.specs.Committee.{broken};
 ghost use Rattle.committee_set.specs.AuthoritySet.{inserted};
 ghost use Rattle.record_spec.specs.Record.{well_formed, block_in};
 ghost use Rattle.record_spec.specs.Verify.{include_checks, previous_authors};
 
-use committee::{FoundStake, RoundNumber};
+use base::Refusal;
+use committee::RoundNumber;
 use committee_set::AuthoritySet;
 use types::BlockReference;
 
-// 24 and 25, include by include, or 0.
-pub fn includes_refusal(stakes: &[u64], rec: &[u8]) -> u64
+// 24 and 25, include by include, or none.
+pub fn includes_refusal(stakes: &[u64], rec: &[u8]) -> Result<(), Refusal>
     requires { well_formed rec.now ≡ true }
-    ensures { result ≡ refusal (flatten (map (include_checks stakes.now (block_in rec.now)) (block_in rec.now).includes)) }
+    ensures { refusal_in result ≡ refusal (flatten (map (include_checks stakes.now (block_in rec.now)) (block_in rec.now).includes)) }
 {
     let reference = record_reader::reference(rec);
     let count = record_reader::include_count(rec);
-    let mut k = 0;
-    while k < count {
+    for k in 0..count {
         let include = record_reader::include(rec, k);
-        let FoundStake::Known(_) = committee::get_stake(stakes, include.authority) else {
-            return 24;
+        let Some(_) = committee::get_stake(stakes, include.authority) else {
+            return Err(Refusal::UnknownIncludeAuthor);
         };
         if reference.round.0 <= include.round.0 {
-            return 25;
+            return Err(Refusal::IncludeRoundNotLower);
         }
-        k = k + 1;
     }
-    0
+    Ok(())
 }
 
 // The voters with the author of an include of a lower round, if it stands at round - 1.

@@ -7,22 +7,24 @@ ghost use Rattle.record_spec.specs.Reference.{max_len};
 ghost use Rattle.base.specs.Lists.{pick};
 ghost use Rattle.base.specs.Le.{Bytes};
 ghost use Rattle.base.specs.Checks.{refusal};
+ghost use Rattle.base.specs.Refusals.{refusal_in};
 ghost use Rattle.record_spec.specs.Record.{well_formed, block_in};
 ghost use Rattle.record_statement.specs.Values.{as_statement};
 ghost use Rattle.record_spec.specs.Verify.{statement_checks};
 
+use base::Refusal;
 use record_statement::BaseStatement;
 use types::TransactionLocatorRange;
 
-// 26 to 28 of a statement, or 0.
-fn statement_refusal(statement: BaseStatement) -> u64
-    ensures { (rec : Bytes) → result ≡ refusal (statement_checks (as_statement rec statement)) }
+// 26 to 28 of a statement, or none.
+fn statement_refusal(statement: BaseStatement) -> Result<(), Refusal>
+    ensures { (rec : Bytes) → refusal_in result ≡ refusal (statement_checks (as_statement rec statement)) }
 {
     match statement {
-        BaseStatement::Share(_, _) => 0,
+        BaseStatement::Share(_, _) => Ok(()),
         BaseStatement::Accept(locator) => accept_refusal(locator.offset),
-        BaseStatement::Reject(_) => 0,
-        BaseStatement::RejectFor(_, _) => 0,
+        BaseStatement::Reject(_) => Ok(()),
+        BaseStatement::RejectFor(_, _) => Ok(()),
         BaseStatement::VoteRange(range) => range_refusal(
             range.offset_start_inclusive,
             range.offset_end_exclusive,
@@ -30,42 +32,39 @@ fn statement_refusal(statement: BaseStatement) -> u64
     }
 }
 
-fn accept_refusal(offset: u64) -> u64
-    ensures { result ≡ pick (eqb offset 18446744073709551615) 28 0 }
+fn accept_refusal(offset: u64) -> Result<(), Refusal>
+    ensures { refusal_in result ≡ pick (eqb offset 18446744073709551615) 28 0 }
 {
     if offset == types::LAST_OFFSET {
-        return 28;
+        return Err(Refusal::AcceptOffsetTooLarge);
     }
-    0
+    Ok(())
 }
 
-fn range_refusal(start: u64, end: u64) -> u64
-    ensures { result ≡ pick (ltb end start) 26 (pick (leb max_len end) 27 0) }
+fn range_refusal(start: u64, end: u64) -> Result<(), Refusal>
+    ensures { refusal_in result ≡ pick (ltb end start) 26 (pick (leb max_len end) 27 0) }
 {
     if end < start {
-        return 26;
+        return Err(Refusal::RangeEndBelowStart);
     }
     if TransactionLocatorRange::MAX_LEN <= end {
-        return 27;
+        return Err(Refusal::RangeEndTooLarge);
     }
-    0
+    Ok(())
 }
 
-// 26 to 28, statement by statement, or 0.
-pub fn statements_refusal(rec: &[u8]) -> u64
+// 26 to 28, statement by statement, or none.
+pub fn statements_refusal(rec: &[u8]) -> Result<(), Refusal>
     requires { well_formed rec.now ≡ true }
-    ensures { result ≡ refusal (flatten (map statement_checks (block_in rec.now).statements)) }
+    ensures { refusal_in result ≡ refusal (flatten (map statement_checks (block_in rec.now).statements)) }
 {
     let count = record_reader::statement_count(rec);
     let mut cursor = record_cursor::first_statement(rec);
     while cursor.index < count {
         let found = record_cursor::next_statement(rec, cursor);
         let statement = found.statement;
-        let refused = statement_refusal(statement);
-        if refused != 0 {
-            return refused;
-        }
+        statement_refusal(statement)?;
         cursor = found.next;
     }
-    0
+    Ok(())
 }

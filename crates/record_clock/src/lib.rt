@@ -4,31 +4,33 @@
 ghost use Rattle.std.specs.Prelude.{◌≡◌, true, false};
 ghost use mathlib.Core.List.{map, flatten};
 ghost use Rattle.base.specs.Checks.{refusal, passes};
+ghost use Rattle.base.specs.Refusals.{refusal_in};
 ghost use Rattle.committee.specs.Committee.{broken, total_stake};
 ghost use Rattle.record_spec.specs.Record.{well_formed, block_in};
 ghost use Rattle.record_spec.specs.Verify.{head_checks, include_checks, clock_valid, body_checks};
 
-use committee::{FoundStake, Stake};
+use base::Refusal;
+use committee::Stake;
 
-// 21 and 22 of a well-formed record, or 0.
-pub fn head_refusal(stakes: &[u64], rec: &[u8]) -> u64
+// 21 and 22 of a well-formed record, or none.
+pub fn head_refusal(stakes: &[u64], rec: &[u8]) -> Result<(), Refusal>
     requires { well_formed rec.now ≡ true }
-    ensures { result ≡ refusal (head_checks stakes.now (block_in rec.now)) }
+    ensures { refusal_in result ≡ refusal (head_checks stakes.now (block_in rec.now)) }
 {
     let reference = record_reader::reference(rec);
-    let FoundStake::Known(_) = committee::get_stake(stakes, reference.authority) else {
-        return 21;
+    let Some(_) = committee::get_stake(stakes, reference.authority) else {
+        return Err(Refusal::UnknownAuthor);
     };
     if reference.round.0 != 0 {
-        return 0;
+        return Ok(());
     }
     if record_reader::include_count(rec) != 0 {
-        return 22;
+        return Err(Refusal::RoundZeroNotEmpty);
     }
     if record_reader::statement_count(rec) != 0 {
-        return 22;
+        return Err(Refusal::RoundZeroNotEmpty);
     }
-    0
+    Ok(())
 }
 
 // The clock of a record whose includes pass their checks: authors of includes at round - 1 hold quorum.
@@ -41,25 +43,19 @@ pub fn threshold_clock_valid_non_genesis(stakes: &[u64], total: Stake, rec: &[u8
     committee::is_quorum(total, stake)
 }
 
-// 24 to 29 of a well-formed record, or 0.
-pub fn body_refusal(stakes: &[u64], total: Stake, rec: &[u8]) -> u64
+// 24 to 29 of a well-formed record, or none.
+pub fn body_refusal(stakes: &[u64], total: Stake, rec: &[u8]) -> Result<(), Refusal>
     requires { ((well_formed rec.now ≡ true) × (broken stakes.now ≡ false)) × (total.0 ≡ total_stake stakes.now) }
-    ensures { result ≡ refusal (body_checks stakes.now (block_in rec.now)) }
+    ensures { refusal_in result ≡ refusal (body_checks stakes.now (block_in rec.now)) }
 {
-    let of_includes = record_check_includes::includes_refusal(stakes, rec);
-    if of_includes != 0 {
-        return of_includes;
-    }
-    let of_statements = record_check_statements::statements_refusal(rec);
-    if of_statements != 0 {
-        return of_statements;
-    }
+    record_check_includes::includes_refusal(stakes, rec)?;
+    record_check_statements::statements_refusal(rec)?;
     let reference = record_reader::reference(rec);
     if reference.round.0 == 0 {
-        return 0;
+        return Ok(());
     }
     if threshold_clock_valid_non_genesis(stakes, total, rec) {
-        return 0;
+        return Ok(());
     }
-    29
+    Err(Refusal::ClockNotMet)
 }

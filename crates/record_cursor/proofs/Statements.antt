@@ -21,7 +21,7 @@ use Rattle.record_spec.proofs.Places.{statements_place}
 use Rattle.record_statement.specs.Values.{as_statement}
 use Rattle.record_statement.specs.Step.{payload_between, Took}
 use Rattle.record_statement.specs.declared.BaseStatement.{BaseStatement}
-use Rattle.record_statement.specs.declared.Taken as taken
+use Rattle.std.specs.Prelude.{Some, None}
 use Rattle.record_reader.proofs.Shape.{shape_in, include_count}
 
 -- ---- one after the other
@@ -88,7 +88,7 @@ module _ (s : List ℕ) (bytes : AllBytes s) (well : well_formed s ≡ true) whe
       (statement_reads st (every_at b.statements no_statement i fits.statements h) (flatten (map statement_bytes (drop (suc i) b.statements))))
 
   -- so what is taken there is the statement, up to the next
-  pub took_some : (i end : ℕ) (st : BaseStatement) → i < length (block_in s).statements → Took s (statement_start s i) (taken.TheVariants.Statement st end)
+  pub took_some : (i end : ℕ) (st : BaseStatement) → i < length (block_in s).statements → Took s (statement_start s i) (Some (st, end))
       → (as_statement s st ≡ get_or (block_in s).statements i no_statement) ×
       ((end ≡ statement_start s (i + 1)) × (payload_between (statement_start s i) end st ≡ true))
   unfolding Took
@@ -100,6 +100,6 @@ module _ (s : List ℕ) (bytes : AllBytes s) (well : well_formed s ≡ true) whe
       (ap (λ (p : Part Statement). p.value) e, (omega (arith, f, length-drop end s, length-drop next s, k.1.0, start_inside (i + 1)), k.1.1))
 
   -- and something is
-  pub took_none : (i : ℕ) → i < length (block_in s).statements → Took s (statement_start s i) taken.TheVariants.Malformed → ⊥
+  pub took_none : (i : ℕ) → i < length (block_in s).statements → Took s (statement_start s i) None → ⊥
   unfolding Took
   took_none i h k = none-ne-some _ (sym k ∙ statement_at i h)

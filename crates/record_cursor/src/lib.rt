@@ -7,7 +7,7 @@ ghost use Rattle.record_cursor.specs.Cursor.{cursor_at};
 ghost use Rattle.record_statement.specs.Step.{payload_between};
 ghost use Rattle.record_statement.specs.Values.{as_statement};
 
-use record_statement::{BaseStatement, Taken};
+use record_statement::BaseStatement;
 
 // A place among the statements of a record: where the statement of that index stands.
 #[derive(Clone, Copy)]
@@ -41,7 +41,7 @@ pub fn next_statement(rec: &[u8], cursor: StatementCursor) -> NextStatement
     ensures { (as_statement rec.now result.statement ≡ get_or (block_in rec.now).statements cursor.index no_statement) × ((result.next ≡ cursor_at rec.now (cursor.index + 1)) × (payload_between cursor.at result.next.at result.statement ≡ true)) }
 {
     let at = cursor.at;
-    let Taken::Statement(statement, end) = record_statement::take_statement(rec, at) else {
+    let Some((statement, end)) = record_statement::take_statement(rec, at) else {
         // Never so: the record is well formed.
         return NextStatement {
             statement: BaseStatement::Share(at, 0),

@@ -1,9 +1,9 @@
 -- What the code's values mean: for each declared type its one conversion. Assumes nothing: these are definitions.
 use Rattle.std.specs.Prelude.{ℕ}
 use Rattle.std.proofs.Math.Option.{Option, none, some}
-use Rattle.record_reader.specs.declared.CreationTime.{CreationTime}
-use Rattle.record_reader.specs.declared.CreationTime.TheVariants.{Given, NotGiven}
+use Rattle.std.specs.Prelude.{None, Some}
+use Rattle.std.specs.declared.option.Option as code
 
-unfoldable pub as_time : CreationTime → Option ℕ
-as_time (Given x) = some x
-as_time NotGiven = none
+unfoldable pub as_time : code.Option ℕ → Option ℕ
+as_time (Some x) = some x
+as_time None = none

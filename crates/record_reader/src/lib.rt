@@ -14,13 +14,6 @@ pub const MAX_INCLUDES: usize = 256;
 
 pub const MAX_STATEMENTS: usize = 1024;
 
-// The time of a block's creation, in nanoseconds, where its record has one.
-#[derive(Clone, Copy)]
-pub enum CreationTime {
-    Given(u64),
-    NotGiven,
-}
-
 // The record is not malformed (20).
 pub fn well_formed(rec: &[u8]) -> bool
     ensures { result ≡ well_formed rec.now }
@@ -93,14 +86,14 @@ pub fn include(rec: &[u8], k: usize) -> BlockReference
 }
 
 // The time of its creation, in nanoseconds, where it has one.
-pub fn creation_time(rec: &[u8]) -> CreationTime
+pub fn creation_time(rec: &[u8]) -> Option<u64>
     requires { well_formed rec.now ≡ true }
     ensures { as_time result ≡ time_in rec.now }
 {
     if rec[53] != 2 {
-        return CreationTime::NotGiven;
+        return None;
     }
-    CreationTime::Given(base::read_u64(rec, record_edition::HEAD_BYTES))
+    Some(base::read_u64(rec, record_edition::HEAD_BYTES))
 }
 
 // The number of its statements.

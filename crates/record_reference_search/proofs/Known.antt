@@ -8,8 +8,7 @@ use Rattle.base.specs.Le.{Bytes}
 use Rattle.record_spec.specs.Reference.{BlockReference}
 use Rattle.record_reference_bytes.specs.Step.{reference_at}
 use Rattle.record_reference_search.specs.Places.{reference_from, Rising, Ascending, Between, FoundAmong}
-use Rattle.record_reference_search.specs.declared.FoundPlace.{FoundPlace}
-use Rattle.record_reference_search.specs.declared.FoundPlace.TheVariants.{At, Before}
+use Rattle.std.specs.Prelude.{Err, Ok, Result}
 
 module _ (s : Bytes) (order : List ℕ) (skip : ℕ) (at : ℕ → BlockReference)
     (stand : (j : ℕ) → j < length order → (get_or order j 0 + skip + 48 ≤ length s) × (reference_at s (get_or order j 0 + skip) ≡ at j)) where
@@ -21,12 +20,12 @@ module _ (s : Bytes) (order : List ℕ) (skip : ℕ) (at : ℕ → BlockReferenc
         rises = λ i j (h : i < j) k. rw ((stand i (omega arith)).1, (stand j k).1) (rise i j h k);
       }
 
-  pub known_at : (r : BlockReference) (p : FoundPlace) (j : ℕ) → p ≡ At j → FoundAmong (length order) (reference_from s order skip) r p → (j < length order) ×
+  pub known_at : (r : BlockReference) (p : Result ℕ ℕ) (j : ℕ) → p ≡ Ok j → FoundAmong (length order) (reference_from s order skip) r p → (j < length order) ×
       (at j ≡ r)
   unfolding FoundAmong reference_from
   known_at r p j e f = let g = subst (FoundAmong (length order) (reference_from s order skip) r) e f in (g.0, sym (stand j g.0).1 ∙ g.1)
 
-  pub known_between : (r : BlockReference) (p : FoundPlace) (j : ℕ) → p ≡ Before j → FoundAmong (length order) (reference_from s order skip) r p → Between
+  pub known_between : (r : BlockReference) (p : Result ℕ ℕ) (j : ℕ) → p ≡ Err j → FoundAmong (length order) (reference_from s order skip) r p → Between
       (length order) at r j
   unfolding FoundAmong reference_from
   known_between r p j e f =

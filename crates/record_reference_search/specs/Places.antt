@@ -3,8 +3,7 @@ use Rattle.std.specs.Prelude.{ℕ, ◌+◌, ◌≤◌, ◌<◌, ◌≡◌, true,
 use Rattle.base.specs.Le.{Bytes}
 use Rattle.record_spec.specs.Reference.{BlockReference, reference_before}
 use Rattle.record_reference_bytes.specs.Step.{reference_at}
-use Rattle.record_reference_search.specs.declared.FoundPlace.{FoundPlace}
-use Rattle.record_reference_search.specs.declared.FoundPlace.TheVariants.{At, Before}
+use Rattle.std.specs.Prelude.{Err, Ok, Result}
 
 -- the reference that stands `skip` bytes after the position at a place
 unfoldable pub reference_from : Bytes → List ℕ → ℕ → ℕ → BlockReference
@@ -26,6 +25,6 @@ pub record Between (n : ℕ) (at : ℕ → BlockReference) (r : BlockReference) 
   pub above : (i : ℕ) → j ≤ i → i < n → reference_before r (at i) ≡ true
 
 -- the place of a reference among them, or the one that it would have
-unfoldable pub FoundAmong : ℕ → (ℕ → BlockReference) → BlockReference → FoundPlace → Type 0
-FoundAmong n at r (At j) = (j < n) × (at j ≡ r)
-FoundAmong n at r (Before j) = Between n at r j
+unfoldable pub FoundAmong : ℕ → (ℕ → BlockReference) → BlockReference → Result ℕ ℕ → Type 0
+FoundAmong n at r (Ok j) = (j < n) × (at j ≡ r)
+FoundAmong n at r (Err j) = Between n at r j

@@ -5,17 +5,17 @@ ghost use Rattle.std.specs.Prelude.{length};
 ghost use Rattle.types.specs.Values.{as_reference};
 ghost use Rattle.record_reference_search.specs.Places.{reference_from, Ascending, FoundAmong};
 
-use types::{BlockReference, Ordering};
+use std::cmp::Ordering;
+use types::BlockReference;
 
-// At a place, or before the one at a place.
-#[derive(Clone, Copy)]
-pub enum FoundPlace {
-    At(usize),
-    Before(usize),
-}
-
-// The place of a reference among those that stand `skip` bytes after the positions, which ascend.
-pub fn find_place(s: &[u8], order: &[u64], skip: usize, block: BlockReference) -> FoundPlace
+// The place of a reference among those that stand `skip` bytes after the positions, which ascend; where it is not among them, the place that it
+// would have is the error.
+pub fn find_place(
+    s: &[u8],
+    order: &[u64],
+    skip: usize,
+    block: BlockReference,
+) -> Result<usize, usize>
     requires { Ascending s.now order.now skip }
     ensures { FoundAmong (length order.now) (reference_from s.now order.now skip) (as_reference block) result }
 {
@@ -27,7 +27,7 @@ pub fn find_place(s: &[u8], order: &[u64], skip: usize, block: BlockReference) -
         let compared = types::compare(record_reference_bytes::read_reference(s, at + skip), block);
         match compared {
             Ordering::Equal => {
-                return FoundPlace::At(middle);
+                return Ok(middle);
             }
             Ordering::Less => {
                 low = middle + 1;
@@ -37,5 +37,5 @@ pub fn find_place(s: &[u8], order: &[u64], skip: usize, block: BlockReference) -
             }
         }
     }
-    FoundPlace::Before(low)
+    Err(low)
 }

@@ -17,11 +17,12 @@ use record_cursor::StatementCursor;
 use record_statement::BaseStatement;
 use record_statement_votes::Vote;
 
-// A run of neighbouring shares, its start and its end, and the place after it; or there is none any more.
+// A run of neighbouring shares, its start and its end, and the place after it.
 #[derive(Clone, Copy)]
-pub enum SharedRange {
-    Run(u64, u64, StatementCursor),
-    End,
+pub struct SharedRange {
+    pub start: u64,
+    pub end: u64,
+    pub next: StatementCursor,
 }
 
 // ---- runs of shares
@@ -57,18 +58,22 @@ pub fn skip_statements(rec: &[u8], from: StatementCursor, shares: bool) -> State
     cursor
 }
 
-// The next run of neighbouring shares from a place on, as `shared_ranges` has it.
-pub fn next_shared_range(rec: &[u8], cursor: StatementCursor) -> SharedRange
+// The next run of neighbouring shares from a place on, as `shared_ranges` has it; or there is none any more.
+pub fn next_shared_range(rec: &[u8], cursor: StatementCursor) -> Option<SharedRange>
     requires { (well_formed rec.now ≡ true) × ((cursor ≡ cursor_at rec.now cursor.index) × (cursor.index ≤ length (block_in rec.now).statements)) }
     ensures { (runs_left (block_in rec.now) cursor.index ≡ runs_told (block_in rec.now) result) × FurtherOn rec.now cursor.index result }
 {
     let count = record_reader::statement_count(rec);
     let start = skip_statements(rec, cursor, false);
     if start.index == count {
-        return SharedRange::End;
+        return None;
     }
     let end = skip_statements(rec, start, true);
-    SharedRange::Run(start.index as u64, end.index as u64, end)
+    Some(SharedRange {
+        start: start.index as u64,
+        end: end.index as u64,
+        next: end,
+    })
 }
 
 // ---- events

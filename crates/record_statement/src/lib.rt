@@ -16,83 +16,77 @@ pub enum BaseStatement {
     VoteRange(TransactionLocatorRange),
 }
 
-// A statement that was read, with the position after it.
-#[derive(Clone, Copy)]
-pub enum Taken {
-    Statement(BaseStatement, usize),
-    Malformed,
-}
+// ---- statements: each of the four takes the position of a kind byte, its own; it answers the statement that was read, with the
+// position after it, or nothing where it is malformed
 
-// ---- statements: each of the four takes the position of a kind byte, its own
-
-fn take_share(s: &[u8], at: usize) -> Taken
+fn take_share(s: &[u8], at: usize) -> Option<(BaseStatement, usize)>
     requires { (at < length s.now) × (get_or s.now at 0 ≡ 0) }
     ensures { Took s.now at result }
 {
     if s.len() - at < 3 {
-        return Taken::Malformed;
+        return None;
     }
     let len = base::read_u16(s, at + 1) as usize;
     let start = at + 3;
     if s.len() - start < len {
-        return Taken::Malformed;
+        return None;
     }
-    Taken::Statement(BaseStatement::Share(start, len), start + len)
+    Some((BaseStatement::Share(start, len), start + len))
 }
 
-fn take_accept(s: &[u8], at: usize) -> Taken
+fn take_accept(s: &[u8], at: usize) -> Option<(BaseStatement, usize)>
     requires { (at < length s.now) × (get_or s.now at 0 ≡ 1) }
     ensures { Took s.now at result }
 {
     if s.len() - at < 57 {
-        return Taken::Malformed;
+        return None;
     }
     let locator = record_reference_bytes::read_locator(s, at + 1);
-    Taken::Statement(BaseStatement::Accept(locator), at + 57)
+    Some((BaseStatement::Accept(locator), at + 57))
 }
 
-fn take_reject(s: &[u8], at: usize) -> Taken
+fn take_reject(s: &[u8], at: usize) -> Option<(BaseStatement, usize)>
     requires { (at < length s.now) × (get_or s.now at 0 ≡ 2) }
     ensures { Took s.now at result }
 {
     if s.len() - at < 58 {
-        return Taken::Malformed;
+        return None;
     }
     let locator = record_reference_bytes::read_locator(s, at + 1);
     let more = s[at + 57];
     if more == 0 {
-        return Taken::Statement(BaseStatement::Reject(locator), at + 58);
+        return Some((BaseStatement::Reject(locator), at + 58));
     }
     if more != 1 {
-        return Taken::Malformed;
+        return None;
     }
     if s.len() - at < 114 {
-        return Taken::Malformed;
+        return None;
     }
     let other = record_reference_bytes::read_locator(s, at + 58);
-    Taken::Statement(BaseStatement::RejectFor(locator, other), at + 114)
+    Some((BaseStatement::RejectFor(locator, other), at + 114))
 }
 
-fn take_range(s: &[u8], at: usize) -> Taken
+fn take_range(s: &[u8], at: usize) -> Option<(BaseStatement, usize)>
     requires { (at < length s.now) × (get_or s.now at 0 ≡ 3) }
     ensures { Took s.now at result }
 {
     if s.len() - at < 65 {
-        return Taken::Malformed;
+        return None;
     }
     let block = record_reference_bytes::read_reference(s, at + 1);
     let start = base::read_u64(s, at + 49);
     let end = base::read_u64(s, at + 57);
     let range = TransactionLocatorRange::new(block, start, end);
-    Taken::Statement(BaseStatement::VoteRange(range), at + 65)
+    Some((BaseStatement::VoteRange(range), at + 65))
 }
 
-// The statement whose kind byte stands at a position.
-pub fn take_statement(s: &[u8], at: usize) -> Taken
+// The statement whose kind byte stands at a position, with the position after it; or nothing where it is malformed.
+pub fn take_statement(s: &[u8], at: usize) -> Option<(BaseStatement, usize)>
     ensures { Took s.now at result }
 {
     if s.len() <= at {
-        return Taken::Malformed;
+        return None;
     }
     let kind = s[at];
     if kind == 0 {
@@ -107,7 +101,7 @@ pub fn take_statement(s: &[u8], at: usize) -> Taken
     if kind == 3 {
         return take_range(s, at);
     }
-    Taken::Malformed
+    None
 }
 
 // `count` statements stand from a position on, and nothing after them.
@@ -118,7 +112,7 @@ pub fn statements_only(s: &[u8], from: usize, count: usize) -> bool
     let mut at = from;
     let mut left = count;
     while 0 < left {
-        let Taken::Statement(_, next) = take_statement(s, at) else {
+        let Some((_, next)) = take_statement(s, at) else {
             return false;
         };
         at = next;

@@ -18,13 +18,6 @@ pub enum Vote {
     Nothing,
 }
 
-// The same as a range, or nothing.
-#[derive(Clone, Copy)]
-pub enum VotedRange {
-    Range(TransactionLocatorRange),
-    Nothing,
-}
-
 pub fn vote_of(statement: BaseStatement) -> Vote
     ensures { (s : Bytes) → as_vote result ≡ voted_range (as_statement s statement) }
 {
@@ -37,7 +30,8 @@ pub fn vote_of(statement: BaseStatement) -> Vote
     }
 }
 
-pub fn voted_range(statement: BaseStatement) -> VotedRange
+// The same as a range, or nothing.
+pub fn voted_range(statement: BaseStatement) -> Option<TransactionLocatorRange>
     requires { EndsInside (as_statement [] statement) }
     ensures { (s : Bytes) → as_voted result ≡ voted_range (as_statement s statement) }
 {
@@ -46,9 +40,9 @@ pub fn voted_range(statement: BaseStatement) -> VotedRange
         Vote::Locator(locator) => {
             let block = locator.block;
             let offset = locator.offset;
-            VotedRange::Range(TransactionLocatorRange::one(TransactionLocator { block, offset }))
+            Some(TransactionLocatorRange::one(TransactionLocator { block, offset }))
         }
-        Vote::Range(range) => VotedRange::Range(range),
-        Vote::Nothing => VotedRange::Nothing,
+        Vote::Range(range) => Some(range),
+        Vote::Nothing => None,
     }
 }

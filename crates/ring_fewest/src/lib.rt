@@ -7,15 +7,9 @@ ghost use Rattle.committee_set.specs.AuthoritySet.{united, set_of, stake_of};
 ghost use Rattle.ring_owners.specs.Ranked.{rung, ring};
 ghost use Rattle.ring_fewest.specs.Answers.{as_ring};
 
-use committee::{AuthorityIndex, NewCommittee, Stake};
+use base::Refusal;
+use committee::{AuthorityIndex, Stake};
 use committee_set::AuthoritySet;
-
-// The owners to ring and their stake, or a refusal.
-#[derive(Clone, Copy)]
-pub enum RingAnswer {
-    Owners(AuthoritySet, Stake),
-    Refused(u64),
-}
 
 // The owners rung one after the other until those counted hold quorum.
 fn until_quorum(
@@ -40,21 +34,25 @@ fn until_quorum(
     owners
 }
 
-// The fewest owners, of those who can be reached, whose votes with the voters' hold quorum; nobody where the voters hold it already.
-pub fn fewest_owners(stakes: &[u64], voters: AuthoritySet, reachable: AuthoritySet) -> RingAnswer
+// The fewest owners, of those who can be reached, whose votes with the voters' hold quorum, and their stake; nobody where the voters hold it already.
+pub fn fewest_owners(
+    stakes: &[u64],
+    voters: AuthoritySet,
+    reachable: AuthoritySet,
+) -> Result<(AuthoritySet, Stake), Refusal>
     ensures { as_ring result ≡ ring stakes.now voters reachable }
 {
-    let NewCommittee::Taken(total) = committee::new_committee(stakes) else {
-        return RingAnswer::Refused(5);
+    let Ok(total) = committee::new_committee(stakes) else {
+        return Err(Refusal::BrokenCommittee);
     };
     let all = AuthoritySet {
         low: voters.low | reachable.low,
         high: voters.high | reachable.high,
     };
     if !committee::is_quorum(total, committee_set::stake_of(stakes, all)) {
-        return RingAnswer::Refused(60);
+        return Err(Refusal::QuorumOutOfReach);
     }
     let owners = until_quorum(stakes, total, voters, reachable);
     let stake = committee_set::stake_of(stakes, owners);
-    RingAnswer::Owners(owners, stake)
+    Ok((owners, stake))
 }

@@ -35,14 +35,12 @@ pub fn next_to_ring(stakes: &[u64], counted: AuthoritySet, reachable: AuthorityS
 {
     let mut best = 0;
     let mut most: u64 = 0;
-    let mut i = 0;
-    while i < stakes.len() {
+    for i in 0..stakes.len() {
         let stake = gain(stakes, counted, reachable, i);
         if most < stake {
             most = stake;
             best = i;
         }
-        i += 1;
     }
     best
 }

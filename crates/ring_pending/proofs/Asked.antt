@@ -20,12 +20,12 @@ use Rattle.store_spec.specs.Store.{records_of}
 use Rattle.pending_spec.specs.Items.{Item, no_item, item_holds, item_at}
 use Rattle.pending_spec.specs.Table.{HoldsItems, items_of}
 use Rattle.pending_search.specs.Answers.{FoundBy}
-use Rattle.pending_search.specs.declared.Found.{Found}
-use Rattle.pending_search.specs.declared.Found.TheVariants.{At, Nothing}
 use Rattle.pending_words.proofs.Slots.{holds_ordered}
 use Rattle.feed_spec.specs.Pending.{pending_checks, standing_of, standing_at, pending}
 use Rattle.pending_question.proofs.Lending.{lying, at_none, at_some}
 use Rattle.ring_pending.specs.WhomToRing.{ring_for, ring_at, whom_to_ring, Claims}
+use Rattle.std.specs.Prelude.{None, Some}
+use Rattle.std.specs.declared.option.Option as code
 
 module _ (c : Committee) (s : Bytes) (t : List ℕ) (w : AuthoritySet) (l : TransactionLocator) where
   pub asked_refused : (refusal (pending_checks c s t) ≡ 0 → ⊥) → whom_to_ring c s t w l ≡ refused (refusal (pending_checks c s t))
@@ -36,13 +36,13 @@ module _ (c : Committee) (s : Bytes) (t : List ℕ) (w : AuthoritySet) (l : Tran
   unfolding whom_to_ring
   asked_at h = rw (lying c s t h).passing
 
-  module _ (p : ℕ) (r : Found) (h : HoldsItems t) (e : p ≡ position_of (lookup (entries (records_of s)) l.block))
+  module _ (p : ℕ) (r : code.Option ℕ) (h : HoldsItems t) (e : p ≡ position_of (lookup (entries (records_of s)) l.block))
       (f : FoundBy (item_holds p l.offset) (items_of t) r) where
-    pub ring_none : r ≡ Nothing → ring_at c s t w l ≡ refused 42
+    pub ring_none : r ≡ None → ring_at c s t w l ≡ refused 42
     unfolding ring_at ring_for
     ring_none q = rw (← e, at_none (items_of t) (holds_ordered t h) p l.offset r f q)
 
-    pub ring_some : (i : ℕ) (x : Item) → r ≡ At i → x ≡ get_or (items_of t) i no_item → ring_at c s t w l ≡ ring c x.aggregator.votes w
+    pub ring_some : (i : ℕ) (x : Item) → r ≡ Some i → x ≡ get_or (items_of t) i no_item → ring_at c s t w l ≡ ring c x.aggregator.votes w
     unfolding ring_at ring_for
     ring_some i x q d = rw (← e, at_some (items_of t) (holds_ordered t h) p l.offset r f i q, ← d)
 

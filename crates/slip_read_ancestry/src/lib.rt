@@ -42,13 +42,11 @@ fn lacks_ancestor(records: &[u8], order: &[u64], lacking: &[u8], place: usize) -
     ensures { result ≡ in_ancestry (lacks (supplied_blocks records.now)) (supplied_blocks records.now) (block_at_place records.now order.now place) }
 {
     let count = include_count_at(records, order, place);
-    let mut k: usize = 0;
-    while k < count {
+    for k in 0..count {
         let include = slip_read_paths::step(records, order, place, k);
         if is_lost(lacking, include) {
             return true;
         }
-        k = k + 1;
     }
     false
 }
@@ -61,10 +59,8 @@ pub fn note_lacking(records: &[u8], order: &[u64], reading: Reading, lacking: &m
     if let Reading::Old = reading {
         return;
     }
-    let mut j: usize = 0;
-    while j < order.len() {
+    for j in 0..order.len() {
         let found = lacks_ancestor(records, order, lacking, j);
         lacking[j] = found as u8;
-        j = j + 1;
     }
 }

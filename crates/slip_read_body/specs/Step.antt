@@ -17,10 +17,7 @@ use Rattle.slip_spec.specs.Reading.{missing_from, missing, certifier_holds, slip
 use Rattle.slip_read_verdicts.specs.Verdict.{verdict}
 use Rattle.slip_read_certifier.specs.Step.{Known}
 use Rattle.slip_read_voters.specs.Step.{Speak}
-use Rattle.slip_read_body.specs.declared.TakenCertifiers.{TakenCertifiers}
-use Rattle.slip_read_body.specs.declared.TakenCertifiers.TheVariants as certifiers
-use Rattle.slip_read_body.specs.declared.TakenSlip.{TakenSlip}
-use Rattle.slip_read_body.specs.declared.TakenSlip.TheVariants as slip
+use Rattle.std.specs.Prelude.{None, Some, Option}
 
 -- a slip's first byte, which names its reading, locator and count stand there
 unfoldable pub head_right : Bytes → Bool
@@ -47,9 +44,9 @@ pub record ReadAll (c : Committee) (s : Bytes) (q : Bytes) (order votes lacking 
     pub shows : (reading : Reading) (l : TransactionLocator) → Known reading q order l votes lacking rejecting → shown ≡ certifiers_verdict reading c
         (supplied_blocks q) l certifiers
 
-unfoldable pub TookCertifiers : Committee → Bytes → Bytes → List ℕ → List ℕ → List ℕ → List ℕ → TakenCertifiers → Type 0
-TookCertifiers c s q order votes lacking rejecting (certifiers.Certifiers end authors shown) = ReadAll c s q order votes lacking rejecting end authors shown
-TookCertifiers c s q order votes lacking rejecting certifiers.Malformed = (r : Part (List SlipCertifier)) → repeated (le_at 2 s 57) read_certifier (drop 59 s) ≡
+unfoldable pub TookCertifiers : Committee → Bytes → Bytes → List ℕ → List ℕ → List ℕ → List ℕ → Option (ℕ × AuthoritySet × ℕ) → Type 0
+TookCertifiers c s q order votes lacking rejecting (Some (end, authors, shown)) = ReadAll c s q order votes lacking rejecting end authors shown
+TookCertifiers c s q order votes lacking rejecting None = (r : Part (List SlipCertifier)) → repeated (le_at 2 s 57) read_certifier (drop 59 s) ≡
     some r → certifiers_ascend r.value ≡ false
 
 -- the slip that was read, and what it shows
@@ -60,6 +57,6 @@ pub record ReadSlip (c : Committee) (s : Bytes) (q : Bytes) (order votes lacking
   pub shows : Known (reading_at s) q order (locator_at s 1) votes lacking rejecting → shown ≡ verdict (missing (supplied_blocks q) slip)
       (slip_holds c (supplied_blocks q) slip)
 
-unfoldable pub TookSlip : Committee → Bytes → Bytes → List ℕ → List ℕ → List ℕ → List ℕ → TakenSlip → Type 0
-TookSlip c s q order votes lacking rejecting (slip.Shows shown) = ReadSlip c s q order votes lacking rejecting shown
-TookSlip c s q order votes lacking rejecting slip.Malformed = read_slip s ≡ none
+unfoldable pub TookSlip : Committee → Bytes → Bytes → List ℕ → List ℕ → List ℕ → List ℕ → Option ℕ → Type 0
+TookSlip c s q order votes lacking rejecting (Some shown) = ReadSlip c s q order votes lacking rejecting shown
+TookSlip c s q order votes lacking rejecting None = read_slip s ≡ none

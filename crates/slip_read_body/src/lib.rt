@@ -9,22 +9,8 @@ ghost use Rattle.slip_read_body.specs.Step.{head_right, TookCertifiers, TookSlip
 
 use committee::Stake;
 use committee_set::AuthoritySet;
-use slip_read_certifier::{SlipPlace, TakenCertifier};
-use types::Ordering;
-
-// All of them: where they end, their authors, and what they show.
-#[derive(Clone, Copy)]
-pub enum TakenCertifiers {
-    Certifiers(usize, AuthoritySet, u64),
-    Malformed,
-}
-
-// What a slip shows.
-#[derive(Clone, Copy)]
-pub enum TakenSlip {
-    Shows(u64),
-    Malformed,
-}
+use slip_read_certifier::SlipPlace;
+use std::cmp::Ordering;
 
 // Whether the reference at a position is the first, or above the one at the last.
 fn follows(slip: &[u8], i: usize, last: usize, at: usize) -> bool
@@ -45,7 +31,8 @@ fn follows(slip: &[u8], i: usize, last: usize, at: usize) -> bool
     }
 }
 
-// The certifying blocks after the head, as many as it says: their references strictly ascend.
+// The certifying blocks after the head, as many as it says: where they end, their authors, and what they show. Their references strictly ascend;
+// none where they do not, or one is malformed.
 fn take_certifiers(
     stakes: &[u64],
     total: Stake,
@@ -55,7 +42,7 @@ fn take_certifiers(
     votes: &[u8],
     lacking: &[u8],
     rejecting: &[u64],
-) -> TakenCertifiers
+) -> Option<(usize, AuthoritySet, u64)>
     requires { (head_right slip.now ≡ true) × Ready stakes.now total.0 records.now order.now votes.now lacking.now rejecting.now }
     ensures { TookCertifiers stakes.now slip.now records.now order.now votes.now lacking.now rejecting.now result }
 {
@@ -64,25 +51,21 @@ fn take_certifiers(
     let mut authors = AuthoritySet::new();
     let mut shown: u64 = 0;
     let mut last: usize = 0;
-    let mut i: usize = 0;
-    while i < count {
+    for i in 0..count {
         let held = SlipPlace { at, total };
-        let TakenCertifier::Certifier(end, own) = slip_read_certifier::take_certifier(
+        let (end, own) = slip_read_certifier::take_certifier(
             stakes, held, slip, records, order, votes, lacking, rejecting,
-        ) else {
-            return TakenCertifiers::Malformed;
-        };
+        )?;
         if !follows(slip, i, last, at) {
-            return TakenCertifiers::Malformed;
+            return None;
         }
         let author = base::read_u64(slip, at);
         authors = slip_read_voters::with_author(authors, author);
         shown = slip_read_verdicts::worse(shown, own);
         last = at;
         at = end;
-        i = i + 1;
     }
-    TakenCertifiers::Certifiers(at, authors, shown)
+    Some((at, authors, shown))
 }
 
 // What a slip shows, with nothing after its certifying blocks.
@@ -95,23 +78,21 @@ pub fn take_slip(
     votes: &[u8],
     lacking: &[u8],
     rejecting: &[u64],
-) -> TakenSlip
+) -> Option<u64>
     requires { (head_right slip.now ≡ true) × Ready stakes.now total.0 records.now order.now votes.now lacking.now rejecting.now }
     ensures { TookSlip stakes.now slip.now records.now order.now votes.now lacking.now rejecting.now result }
 {
-    let TakenCertifiers::Certifiers(end, authors, shown) = take_certifiers(
+    let (end, authors, shown) = take_certifiers(
         stakes, total, slip, records, order, votes, lacking, rejecting,
-    ) else {
-        return TakenSlip::Malformed;
-    };
+    )?;
     if end != slip.len() {
-        return TakenSlip::Malformed;
+        return None;
     }
     if shown != 0 {
-        return TakenSlip::Shows(shown);
+        return Some(shown);
     }
     if slip_read_certifier::hold_quorum(stakes, total, authors) {
-        return TakenSlip::Shows(0);
+        return Some(0);
     }
-    TakenSlip::Shows(1)
+    Some(1)
 }

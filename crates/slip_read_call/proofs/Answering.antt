@@ -24,10 +24,9 @@ use Rattle.slip_read_paths.specs.Walk.{Noted}
 use Rattle.slip_read_ancestry.specs.Lacking.{Right, LackingIn}
 use Rattle.slip_read_rejecters.specs.Rejecting.{RejectingIn}
 use Rattle.slip_read_certifier.specs.Step.{Known}
-use Rattle.slip_read_body.specs.declared.TakenSlip.{TakenSlip}
-use Rattle.slip_read_body.specs.declared.TakenSlip.TheVariants.{Shows, Malformed}
 use Rattle.slip_read_body.specs.Step.{head_right, reading_at, TookSlip}
 use Rattle.slip_read_call.specs.Step.{Showed}
+use Rattle.std.specs.Prelude.{None, Some, Option}
 
 module _ (c : Committee) (s q : Bytes) where
   pub answer_broken : broken c ≡ true → refused 5 ≡ read_answer c s q
@@ -130,9 +129,9 @@ pub known_all : (s q : Bytes) (order votes lacking rejecting : List ℕ) (l : Tr
     → Known (reading_at s) q order (locator_at s 1) votes lacking rejecting
 known_all s q order votes lacking rejecting l reading e f n k r = rw (← e, ← f) (record { noted = n; lacks = k; rejects = r })
 
-pub shown_slip : (c : Committee) (s q : Bytes) (order votes lacking rejecting : List ℕ) (r : TakenSlip) → Known (reading_at s) q order (locator_at s 1) votes
+pub shown_slip : (c : Committee) (s q : Bytes) (order votes lacking rejecting : List ℕ) (r : Option ℕ) → Known (reading_at s) q order (locator_at s 1) votes
     lacking rejecting
     → TookSlip c s q order votes lacking rejecting r → Showed c s q r
 unfolding TookSlip Showed
-shown_slip c s q order votes lacking rejecting (Shows v) k t = record { slip = t.slip; reads = t.reads; many = t.many; shows = t.shows k }
-shown_slip c s q order votes lacking rejecting Malformed k t = t
+shown_slip c s q order votes lacking rejecting (Some v) k t = record { slip = t.slip; reads = t.reads; many = t.many; shows = t.shows k }
+shown_slip c s q order votes lacking rejecting None k t = t

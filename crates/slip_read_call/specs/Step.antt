@@ -7,8 +7,7 @@ use Rattle.slip_spec.specs.Slip.{Slip, read_slip}
 use Rattle.slip_spec.specs.Supplied.{supplied_blocks}
 use Rattle.slip_spec.specs.Reading.{missing, slip_holds}
 use Rattle.slip_read_verdicts.specs.Verdict.{verdict}
-use Rattle.slip_read_body.specs.declared.TakenSlip.{TakenSlip}
-use Rattle.slip_read_body.specs.declared.TakenSlip.TheVariants.{Shows, Malformed}
+use Rattle.std.specs.Prelude.{None, Some, Option}
 
 -- the slip, and what it shows
 pub record Shown (c : Committee) (s q : Bytes) (shown : ℕ) : Type 0 where
@@ -17,6 +16,6 @@ pub record Shown (c : Committee) (s q : Bytes) (shown : ℕ) : Type 0 where
   pub many : length slip.certifiers ≡ le_at 2 s 57
   pub shows : shown ≡ verdict (missing (supplied_blocks q) slip) (slip_holds c (supplied_blocks q) slip)
 
-unfoldable pub Showed : Committee → Bytes → Bytes → TakenSlip → Type 0
-Showed c s q (Shows shown) = Shown c s q shown
-Showed c s q Malformed = read_slip s ≡ none
+unfoldable pub Showed : Committee → Bytes → Bytes → Option ℕ → Type 0
+Showed c s q (Some shown) = Shown c s q shown
+Showed c s q None = read_slip s ≡ none

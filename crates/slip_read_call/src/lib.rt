@@ -13,17 +13,9 @@ ghost use Rattle.slip_read_body.specs.Step.{head_right, reading_at};
 ghost use Rattle.slip_read_call.specs.Step.{Showed};
 ghost use Rattle.slip_read_call.specs.Answers.{as_slip_answer};
 
-use committee::{NewCommittee, Stake};
+use base::Refusal;
+use committee::Stake;
 use final_readings_spec::Reading;
-use slip_read_body::TakenSlip;
-use slip_read_records::SortedRecords;
-
-// What reading answers: the number of certifying blocks, or a refusal number.
-#[derive(Clone, Copy)]
-pub enum SlipAnswer {
-    Accepted(u64),
-    Refused(u64),
-}
 
 // Whether the first byte names a reading: 0 the old one, 1 the one in which an owner may withdraw.
 fn names_reading(slip: &[u8]) -> bool
@@ -47,7 +39,13 @@ fn named_reading(slip: &[u8]) -> Reading
 }
 
 // What a slip shows with its records, of which it is noted first who votes, where an ancestor is missing and who rejects.
-fn show_slip(stakes: &[u64], total: Stake, slip: &[u8], records: &[u8], order: &[u64]) -> TakenSlip
+fn show_slip(
+    stakes: &[u64],
+    total: Stake,
+    slip: &[u8],
+    records: &[u8],
+    order: &[u64],
+) -> Option<u64>
     requires { ((head_right slip.now ≡ true) × ((broken stakes.now ≡ false) × (total.0 ≡ total_stake stakes.now))) × ((Places records.now (supplied_blocks records.now) order.now × Right records.now) × (length order.now ≤ 1024)) }
     ensures { Showed stakes.now slip.now records.now result }
 {
@@ -64,33 +62,32 @@ fn show_slip(stakes: &[u64], total: Stake, slip: &[u8], records: &[u8], order: &
     )
 }
 
-// Reads a slip with its records under a committee: 5; 61 for another first byte or none; 52 for a slip or records of another form; 53 where a record
+// Reads a slip with its records under a committee, and gives back the number of its certifying blocks: 5; 61 for another first byte or none; 52 for a slip or records of another form; 53 where a record
 // that it names, also by path, or one of the ancestry of a new slip's certifying blocks is missing; 52 where it does not hold.
-pub fn read_slip(stakes: &[u64], slip: &[u8], records: &[u8]) -> SlipAnswer
+pub fn read_slip(stakes: &[u64], slip: &[u8], records: &[u8]) -> Result<u64, Refusal>
     ensures { as_slip_answer result ≡ read_answer stakes.now slip.now records.now }
 {
-    let NewCommittee::Taken(total) = committee::new_committee(stakes) else {
-        return SlipAnswer::Refused(5);
+    let Ok(total) = committee::new_committee(stakes) else {
+        return Err(Refusal::BrokenCommittee);
     };
     if !names_reading(slip) {
-        return SlipAnswer::Refused(61);
+        return Err(Refusal::SlipReadingUnknown);
     }
     if slip.len() < 59 {
-        return SlipAnswer::Refused(52);
+        return Err(Refusal::SlipNotHeld);
     }
     let mut order = [0u64; types::MAX_BLOCKS];
-    let SortedRecords::Right(count) = slip_read_records::sort_records(stakes, records, &mut order)
-    else {
-        return SlipAnswer::Refused(52);
+    let Some(count) = slip_read_records::sort_records(stakes, records, &mut order) else {
+        return Err(Refusal::SlipNotHeld);
     };
-    let TakenSlip::Shows(shown) = show_slip(stakes, total, slip, records, &order[..count]) else {
-        return SlipAnswer::Refused(52);
+    let Some(shown) = show_slip(stakes, total, slip, records, &order[..count]) else {
+        return Err(Refusal::SlipNotHeld);
     };
     if shown == 2 {
-        return SlipAnswer::Refused(53);
+        return Err(Refusal::SlipRecordMissing);
     }
     if shown == 1 {
-        return SlipAnswer::Refused(52);
+        return Err(Refusal::SlipNotHeld);
     }
-    SlipAnswer::Accepted(base::read_u16(slip, 57) as u64)
+    Ok(base::read_u16(slip, 57) as u64)
 }

@@ -18,8 +18,8 @@ use Rattle.slip_read_voters.specs.Step.{Speak}
 use Rattle.slip_read_ancestry.specs.Lacking.{Right, LackingIn}
 use Rattle.slip_read_rejecters.specs.Rejecting.{RejectingIn}
 use Rattle.slip_read_certifier.specs.Verdict.{standing_verdict, certifier_verdict}
-use Rattle.slip_read_certifier.specs.declared.TakenCertifier.{TakenCertifier}
-use Rattle.slip_read_certifier.specs.declared.TakenCertifier.TheVariants as certifier
+use Rattle.std.specs.Prelude.{Some, None}
+use Rattle.std.specs.declared.option.Option as taken
 
 -- what the ancestry of a certifier, which is led to, shows with a set of listed voters
 unfoldable pub Stands : List ℕ → List ℕ → code.Led → AuthoritySet → ℕ → Type 0
@@ -54,6 +54,6 @@ pub record ReadOne (c : Committee) (s : Bytes) (p : ℕ) (q : Bytes) (order vote
   pub shows : (reading : Reading) (l : TransactionLocator) → Known reading q order l votes lacking rejecting
       → shown ≡ certifier_verdict reading c (supplied_blocks q) l (certifier).voters (named (supplied_blocks q) (certifier).reference)
 
-unfoldable pub TookCertifier : Committee → Bytes → ℕ → Bytes → List ℕ → List ℕ → List ℕ → List ℕ → TakenCertifier → Type 0
-TookCertifier c s p q order votes lacking rejecting (certifier.Certifier end shown) = ReadOne c s p q order votes lacking rejecting end shown
-TookCertifier c s p q order votes lacking rejecting certifier.Malformed = read_certifier (drop p s) ≡ none
+unfoldable pub TookCertifier : Committee → Bytes → ℕ → Bytes → List ℕ → List ℕ → List ℕ → List ℕ → taken.Option (ℕ × ℕ) → Type 0
+TookCertifier c s p q order votes lacking rejecting (Some (end, shown)) = ReadOne c s p q order votes lacking rejecting end shown
+TookCertifier c s p q order votes lacking rejecting None = read_certifier (drop p s) ≡ none

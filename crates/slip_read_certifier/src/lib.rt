@@ -17,20 +17,12 @@ ghost use Rattle.slip_read_certifier.specs.Step.{Stands, Ready, TookCertifier};
 use committee::Stake;
 use committee_set::AuthoritySet;
 use slip_read_paths::Led;
-use slip_read_voters::TakenVoters;
 
 // Where reading stands in a slip, and the total stake under which it is read.
 #[derive(Clone, Copy)]
 pub struct SlipPlace {
     pub at: usize,
     pub total: Stake,
-}
-
-// A certifying block that was read: where it ends, and what it shows (0 that it holds, 1 that it does not, 2 that a record is missing).
-#[derive(Clone, Copy)]
-pub enum TakenCertifier {
-    Certifier(usize, u64),
-    Malformed,
 }
 
 // Whether authors hold quorum, each once.
@@ -79,7 +71,8 @@ fn standing_verdict(lacking: &[u8], rejecting: &[u64], certifier: Led, voters: A
     }
 }
 
-// The certifying block at a position, with its voters.
+// The certifying block at a position, with its voters: where it ends, and what it shows (0 that it holds, 1 that it does not, 2 that a record is
+// missing). None where it is malformed.
 pub fn take_certifier(
     stakes: &[u64],
     held: SlipPlace,
@@ -89,13 +82,13 @@ pub fn take_certifier(
     votes: &[u8],
     lacking: &[u8],
     rejecting: &[u64],
-) -> TakenCertifier
+) -> Option<(usize, u64)>
     requires { (held.at ≤ length slip.now) × Ready stakes.now held.total.0 records.now order.now votes.now lacking.now rejecting.now }
     ensures { TookCertifier stakes.now slip.now held.at records.now order.now votes.now lacking.now rejecting.now result }
 {
     let at = held.at;
     if slip.len() - at < 49 {
-        return TakenCertifier::Malformed;
+        return None;
     }
     let certifier = slip_read_paths::find(
         records,
@@ -103,7 +96,7 @@ pub fn take_certifier(
         record_reference_bytes::read_reference(slip, at),
     );
     let count = slip[at + types::REFERENCE_BYTES] as usize;
-    let TakenVoters::Voters(end, voters, shown) = slip_read_voters::take_voters(
+    let (end, voters, shown) = slip_read_voters::take_voters(
         slip,
         at + 49,
         count,
@@ -111,17 +104,15 @@ pub fn take_certifier(
         order,
         votes,
         certifier,
-    ) else {
-        return TakenCertifier::Malformed;
-    };
+    )?;
     let given = slip_read_verdicts::worse(own_verdict(records, order, certifier), shown);
     let standing = standing_verdict(lacking, rejecting, certifier, voters);
     let shows = slip_read_verdicts::worse(given, standing);
     if shows != 0 {
-        return TakenCertifier::Certifier(end, shows);
+        return Some((end, shows));
     }
     if hold_quorum(stakes, held.total, voters) {
-        return TakenCertifier::Certifier(end, 0);
+        return Some((end, 0));
     }
-    TakenCertifier::Certifier(end, 1)
+    Some((end, 1))
 }

@@ -9,7 +9,6 @@ ghost use Rattle.slip_spec.specs.Paths.{named, to_block, on_from, on_by, leads};
 ghost use Rattle.slip_read_records.specs.Places.{block_at_place, Sorted, Places};
 ghost use Rattle.slip_read_paths.specs.Walk.{Noted, LedTo};
 
-use record_reference_search::FoundPlace;
 use types::{BlockReference, TransactionLocator};
 
 // Where a path leads: to the block at a place, past the end of a block's includes, or to a block that is not among the records.
@@ -36,14 +35,12 @@ pub fn note_votes(records: &[u8], order: &[u64], locator: TransactionLocator, vo
     requires { Sorted records.now order.now × (length order.now ≤ length votes.old) }
     ensures { Noted records.now order.now (as_locator locator) (length order.now) votes.new }
 {
-    let mut j: usize = 0;
-    while j < order.len() {
+    for j in 0..order.len() {
         let at = order[j] as usize;
         let from = at + 4;
         let end = slip_read_records::record_end(records, at);
         let voting = final_block_votes::votes_for(&records[from..end], locator);
         votes[j] = voting as u8;
-        j = j + 1;
     }
 }
 
@@ -54,8 +51,8 @@ pub fn find(records: &[u8], order: &[u64], block: BlockReference) -> Led
 {
     let found = record_reference_search::find_place(records, order, 4, block);
     match found {
-        FoundPlace::At(j) => Led::To(j),
-        FoundPlace::Before(_) => Led::NotGiven,
+        Ok(j) => Led::To(j),
+        Err(_) => Led::NotGiven,
     }
 }
 

@@ -9,10 +9,9 @@ use Rattle.record_spec.specs.Reference.{BlockReference}
 use Rattle.record_reference_bytes.specs.Step.{reference_at}
 use Rattle.record_reader.proofs.Shape.{reference_within}
 use Rattle.record_reference_search.specs.Places.{reference_from, Ascending, Between, FoundAmong}
-use Rattle.record_reference_search.specs.declared.FoundPlace.{FoundPlace}
-use Rattle.record_reference_search.specs.declared.FoundPlace.TheVariants.{At, Before}
 use Rattle.record_reference_search.proofs.Known.{known_ascend, known_at, known_between}
 use Rattle.slip_read_records.specs.Places.{record_from, block_from, Framed, block_at_place, reference_in, Sorted}
+use Rattle.std.specs.Prelude.{Err, Ok, Result}
 
 -- a record lent as a part of all
 pub record-part : (q : Bytes) (p end : ℕ) → end ≡ p + 4 + le_at 4 q p → take (end - (p + 4)) (drop (p + 4) q) ≡ record_from q p
@@ -34,10 +33,10 @@ module _ (q : Bytes) (order : List ℕ) (s : Sorted q order) where
   pub sorted_ascends : Ascending q order 4
   sorted_ascends = known_ascend q order 4 (reference_in q order) stand s.rises
 
-  pub sorted_at : (r : BlockReference) (p : FoundPlace) (j : ℕ) → p ≡ At j → FoundAmong (length order) (reference_from q order 4) r p → (j < length order) ×
+  pub sorted_at : (r : BlockReference) (p : Result ℕ ℕ) (j : ℕ) → p ≡ Ok j → FoundAmong (length order) (reference_from q order 4) r p → (j < length order) ×
       (reference_in q order j ≡ r)
   sorted_at = known_at q order 4 (reference_in q order) stand
 
-  pub sorted_between : (r : BlockReference) (p : FoundPlace) (j : ℕ) → p ≡ Before j → FoundAmong (length order) (reference_from q order 4) r p → Between
+  pub sorted_between : (r : BlockReference) (p : Result ℕ ℕ) (j : ℕ) → p ≡ Err j → FoundAmong (length order) (reference_from q order 4) r p → Between
       (length order) (reference_in q order) r j
   sorted_between = known_between q order 4 (reference_in q order) stand

@@ -75,11 +75,9 @@ fn rejecters_of(
 {
     let count = slip_read_ancestry::include_count_at(records, order, place);
     let mut found = own_reject(records, order, locator, place);
-    let mut k: usize = 0;
-    while k < count {
+    for k in 0..count {
         let include = slip_read_paths::step(records, order, place, k);
         found = committee_set::union(found, rejecters_at(rejecting, include));
-        k = k + 1;
     }
     found
 }
@@ -98,12 +96,10 @@ pub fn note_rejecters(
     if let Reading::Old = reading {
         return;
     }
-    let mut j: usize = 0;
-    while j < order.len() {
+    for j in 0..order.len() {
         let found = rejecters_of(records, order, locator, rejecting, j);
         rejecting[2 * j] = found.low;
         rejecting[2 * j + 1] = found.high;
-        j = j + 1;
     }
 }
 
@@ -122,12 +118,10 @@ fn in_both(a: AuthoritySet, b: AuthoritySet, owner: AuthorityIndex) -> bool
 pub fn meet(a: AuthoritySet, b: AuthoritySet) -> bool
     ensures { Meeting a b result }
 {
-    let mut i: u64 = 0;
-    while i < 128 {
+    for i in 0..128 {
         if in_both(a, b, AuthorityIndex(i)) {
             return true;
         }
-        i += 1;
     }
     false
 }

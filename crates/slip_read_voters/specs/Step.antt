@@ -15,21 +15,19 @@ use Rattle.slip_spec.specs.Reading.{is_not_given, ends_at_vote}
 use Rattle.slip_read_verdicts.specs.Verdict.{verdict}
 use Rattle.slip_read_paths.specs.Walk.{Noted, LedTo}
 use Rattle.slip_read_paths.specs.declared.Led as code
-use Rattle.slip_read_voters.specs.declared.TakenVoter.{TakenVoter}
-use Rattle.slip_read_voters.specs.declared.TakenVoter.TheVariants as voter
-use Rattle.slip_read_voters.specs.declared.TakenVoters.{TakenVoters}
-use Rattle.slip_read_voters.specs.declared.TakenVoters.TheVariants as voters
+use Rattle.std.specs.Prelude.{Some, None}
+use Rattle.std.specs.declared.option.Option as taken
 
 -- the voter that ends at a position
 unfoldable pub voter_at : Bytes → ℕ → AuthorityIndex → ℕ → SlipVoter
 voter_at s p a end = record { author = a; path = take (end - (p + 10)) (drop (p + 10) s) }
 
 -- what was taken at a position is the voter that is read there, and ends where the rest begins; or none is read there
-unfoldable pub TookVoter : Bytes → ℕ → TakenVoter → Type 0
-TookVoter s p (voter.Voter a end) =
+unfoldable pub TookVoter : Bytes → ℕ → taken.Option (AuthorityIndex × ℕ) → Type 0
+TookVoter s p (Some (a, end)) =
     (read_voter (drop p s) ≡ some (record { value = voter_at s p a end; rest = drop end s }))
     × ((p + 10 ≤ end) × (end ≤ length s))
-TookVoter s p voter.Malformed = read_voter (drop p s) ≡ none
+TookVoter s p None = read_voter (drop p s) ≡ none
 
 -- the set has exactly the authors of the list, of those that a committee can have
 unfoldable pub Speak : AuthoritySet → List AuthorityIndex → Type 0
@@ -51,7 +49,7 @@ pub record Read (s : Bytes) (p n : ℕ) (q : Bytes) (order votes : List ℕ) (ce
       → shown ≡ voters_verdict (supplied_blocks q) l o voters
 
 -- voters that are not read, or do not ascend
-unfoldable pub TookVoters : Bytes → ℕ → ℕ → Bytes → List ℕ → List ℕ → code.Led → TakenVoters → Type 0
-TookVoters s p n q order votes certifier (voters.Voters end authors shown) = Read s p n q order votes certifier end authors shown
-TookVoters s p n q order votes certifier voters.Malformed = (r : Part (List SlipVoter)) → repeated n read_voter (drop p s) ≡ some r → voters_ascend r.value ≡
+unfoldable pub TookVoters : Bytes → ℕ → ℕ → Bytes → List ℕ → List ℕ → code.Led → taken.Option (ℕ × AuthoritySet × ℕ) → Type 0
+TookVoters s p n q order votes certifier (Some (end, authors, shown)) = Read s p n q order votes certifier end authors shown
+TookVoters s p n q order votes certifier None = (r : Part (List SlipVoter)) → repeated n read_voter (drop p s) ≡ some r → voters_ascend r.value ≡
     false

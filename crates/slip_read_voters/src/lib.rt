@@ -13,20 +13,6 @@ use committee::AuthorityIndex;
 use committee_set::AuthoritySet;
 use slip_read_paths::Led;
 
-// A voter that was read: its author, and where it ends. Its path begins 10 bytes after it.
-#[derive(Clone, Copy)]
-pub enum TakenVoter {
-    Voter(u64, usize),
-    Malformed,
-}
-
-// Voters that were read: where they end, their authors, and what they show (0 that they hold, 1 that they do not, 2 that a record is missing).
-#[derive(Clone, Copy)]
-pub enum TakenVoters {
-    Voters(usize, AuthoritySet, u64),
-    Malformed,
-}
-
 // The set with an author in it; none of 128 or more is in a committee.
 pub fn with_author(authors: AuthoritySet, author: u64) -> AuthoritySet
     ensures { result ≡ pick (ltb author 128) (inserted authors author) authors }
@@ -37,21 +23,21 @@ pub fn with_author(authors: AuthoritySet, author: u64) -> AuthoritySet
     authors
 }
 
-// The voter at a position.
-fn take_voter(slip: &[u8], at: usize) -> TakenVoter
+// The voter at a position: its author, and where it ends. Its path begins 10 bytes after it. None where it is malformed.
+fn take_voter(slip: &[u8], at: usize) -> Option<(u64, usize)>
     requires { at ≤ length slip.now }
     ensures { TookVoter slip.now at result }
 {
     if slip.len() - at < 10 {
-        return TakenVoter::Malformed;
+        return None;
     }
     let author = base::read_u64(slip, at);
     let n = base::read_u16(slip, at + 8) as usize;
     let from = at + 10;
     if slip.len() - from < n {
-        return TakenVoter::Malformed;
+        return None;
     }
-    TakenVoter::Voter(author, from + n)
+    Some((author, from + n))
 }
 
 // Whether an author is the first, or above the last.
@@ -64,7 +50,8 @@ fn follows(i: usize, last: u64, author: u64) -> bool
     last < author
 }
 
-// As many voters, from a position on: their authors strictly ascend.
+// As many voters, from a position on: where they end, their authors, and what they show (0 that they hold, 1 that they do not, 2 that a record is
+// missing). Their authors strictly ascend; none where they do not, or one is malformed.
 pub fn take_voters(
     slip: &[u8],
     from: usize,
@@ -73,7 +60,7 @@ pub fn take_voters(
     order: &[u64],
     votes: &[u8],
     certifier: Led,
-) -> TakenVoters
+) -> Option<(usize, AuthoritySet, u64)>
     requires { (from ≤ length slip.now) × (Places records.now (supplied_blocks records.now) order.now × (InPlace order.now certifier × (length order.now ≤ length votes.now))) }
     ensures { TookVoters slip.now from count records.now order.now votes.now certifier result }
 {
@@ -81,13 +68,10 @@ pub fn take_voters(
     let mut authors = AuthoritySet::new();
     let mut shown: u64 = 0;
     let mut last: u64 = 0;
-    let mut i: usize = 0;
-    while i < count {
-        let TakenVoter::Voter(author, end) = take_voter(slip, at) else {
-            return TakenVoters::Malformed;
-        };
+    for i in 0..count {
+        let (author, end) = take_voter(slip, at)?;
         if !follows(i, last, author) {
-            return TakenVoters::Malformed;
+            return None;
         }
         let path = at + 10;
         let own = slip_read_verdicts::voter_verdict(
@@ -102,7 +86,6 @@ pub fn take_voters(
         shown = slip_read_verdicts::worse(shown, own);
         last = author;
         at = end;
-        i = i + 1;
     }
-    TakenVoters::Voters(at, authors, shown)
+    Some((at, authors, shown))
 }

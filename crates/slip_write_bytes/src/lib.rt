@@ -10,16 +10,10 @@ ghost use Rattle.slip_write_bytes.specs.Answers.{as_slip_answer};
 ghost use Rattle.slip_write_parts.specs.Listed.{Voted, listed_bytes};
 ghost use Rattle.slip_write_bytes.specs.Listed.{written_over};
 
+use base::Refusal;
 use final_readings_spec::Reading;
 use slip_write_parts::SlipHead;
 use types::TransactionLocator;
-
-// The length of the slip that was written, or the refusal.
-#[derive(Clone, Copy)]
-pub enum SlipAnswer {
-    Written(usize),
-    Refused(u64),
-}
 
 // The byte of a reading.
 fn reading_byte(reading: Reading) -> u8
@@ -31,7 +25,7 @@ fn reading_byte(reading: Reading) -> u8
     }
 }
 
-// Writes the slip of the first n certifying blocks of a table, in the reading that is asked for, or answers 50.
+// Writes the slip of the first n certifying blocks of a table, in the reading that is asked for, and answers its length, or 50.
 pub fn write_listed(
     store: &[u8],
     order: &[u64],
@@ -40,7 +34,7 @@ pub fn write_listed(
     certifiers: &[u64],
     n: usize,
     out: &mut [u8],
-) -> SlipAnswer
+) -> Result<usize, Refusal>
     requires { (SortedStore store.now order.now × (length order.now ≤ 1024)) × (((n ≤ 1024) × (3 * n ≤ length certifiers.now)) × Voted store.now order.now (as_locator locator) certifiers.now n) }
     ensures result_value { as_slip_answer result ≡ (written_over (listed_bytes store.now order.now (as_locator locator) (reading_byte (as_reading reading)) certifiers.now n) out.old).answer }
     ensures out_after { out.new ≡ (written_over (listed_bytes store.now order.now (as_locator locator) (reading_byte (as_reading reading)) certifiers.now n) out.old).out }
@@ -50,10 +44,10 @@ pub fn write_listed(
     slip_write_distances::find_distances(store, order, locator, &mut near, &mut steps);
     let size = slip_write_parts::parts_size(&near, certifiers, n);
     if out.len() < size {
-        return SlipAnswer::Refused(50);
+        return Err(Refusal::TooShortToWrite);
     }
     let first = reading_byte(reading);
     let head = SlipHead { first, locator };
     slip_write_parts::write_parts(store, order, head, &near, &steps, certifiers, n, out);
-    SlipAnswer::Written(size)
+    Ok(size)
 }

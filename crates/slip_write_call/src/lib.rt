@@ -15,10 +15,10 @@ ghost use Rattle.slip_spec.specs.Writing.{write_slip};
 ghost use Rattle.slip_write_table.specs.Table.{Listed};
 ghost use Rattle.slip_write_bytes.specs.Answers.{as_slip_answer};
 
-use committee::{NewCommittee, Stake};
+use base::Refusal;
+use committee::Stake;
 use final_certifying::Certifiers;
 use final_readings_spec::Reading;
-use slip_write_bytes::SlipAnswer;
 use types::TransactionLocator;
 
 // Lists the blocks that certify a locator in the reading that is asked for, with their voters, which are worked out once.
@@ -69,7 +69,7 @@ fn write_found(
     locator: TransactionLocator,
     reading: Reading,
     out: &mut [u8],
-) -> SlipAnswer
+) -> Result<usize, Refusal>
     requires { (Sorted stakes.now store.now order.now × (total.0 ≡ total_stake stakes.now)) × (length order.now ≤ 1024) }
     ensures result_value { as_slip_answer result ≡ (write_slip (as_reading reading) stakes.now store.now out.old (as_locator locator)).answer }
     ensures out_after { out.new ≡ (write_slip (as_reading reading) stakes.now store.now out.old (as_locator locator)).out }
@@ -85,7 +85,7 @@ fn write_found(
         &mut certifiers,
     );
     if !committee::is_quorum(total, committee_set::stake_of(stakes, found.authors)) {
-        return SlipAnswer::Refused(52);
+        return Err(Refusal::SlipNotHeld);
     }
     slip_write_bytes::write_listed(
         store,
@@ -105,15 +105,15 @@ pub fn write_slip_in(
     locator: TransactionLocator,
     reading: Reading,
     out: &mut [u8],
-) -> SlipAnswer
+) -> Result<usize, Refusal>
     ensures result_value { as_slip_answer result ≡ (write_slip (as_reading reading) stakes.now store.now out.old (as_locator locator)).answer }
     ensures out_after { out.new ≡ (write_slip (as_reading reading) stakes.now store.now out.old (as_locator locator)).out }
 {
-    let NewCommittee::Taken(total) = committee::new_committee(stakes) else {
-        return SlipAnswer::Refused(5);
+    let Ok(total) = committee::new_committee(stakes) else {
+        return Err(Refusal::BrokenCommittee);
     };
     if !store_order::in_order(stakes, store) {
-        return SlipAnswer::Refused(10);
+        return Err(Refusal::StoreNotInOrder);
     }
     let mut order = [0u64; types::MAX_BLOCKS];
     let count = final_block_votes::sorted_positions(store, &mut order);
@@ -126,7 +126,7 @@ pub fn write_slip(
     store: &[u8],
     locator: TransactionLocator,
     out: &mut [u8],
-) -> SlipAnswer
+) -> Result<usize, Refusal>
     ensures result_value { as_slip_answer result ≡ (write_slip old stakes.now store.now out.old (as_locator locator)).answer }
     ensures out_after { out.new ≡ (write_slip old stakes.now store.now out.old (as_locator locator)).out }
 {
@@ -139,7 +139,7 @@ pub fn write_slip_withdrawing(
     store: &[u8],
     locator: TransactionLocator,
     out: &mut [u8],
-) -> SlipAnswer
+) -> Result<usize, Refusal>
     ensures result_value { as_slip_answer result ≡ (write_slip withdrawing stakes.now store.now out.old (as_locator locator)).answer }
     ensures out_after { out.new ≡ (write_slip withdrawing stakes.now store.now out.old (as_locator locator)).out }
 {

@@ -18,13 +18,11 @@ pub fn certifiers_size(near: &[u16], certifiers: &[u64], n: usize) -> usize
     ensures upper_bound { result ≤ 8591033344 }
 {
     let mut size: usize = 0;
-    let mut i: usize = 0;
-    while i < n {
+    for i in 0..n {
         let k = certifiers[3 * i] as usize;
         let low = certifiers[3 * i + 1];
         let high = certifiers[3 * i + 2];
         size = size + (49 + slip_write_routes::voters_size(near, k, AuthoritySet { low, high }));
-        i += 1;
     }
     size
 }
@@ -65,8 +63,7 @@ pub fn write_certifiers(
     ensures { (l : Locator) → Distances store.now order.now l near.now steps.now (length order.now) → out.new ≡ sets out.old at (certifiers_bytes store.now order.now l certifiers.now n) }
 {
     let mut to = at;
-    let mut i: usize = 0;
-    while i < n {
+    for i in 0..n {
         let k = certifiers[3 * i] as usize;
         let low = certifiers[3 * i + 1];
         let high = certifiers[3 * i + 2];
@@ -80,6 +77,5 @@ pub fn write_certifiers(
             out,
             to,
         );
-        i += 1;
     }
 }

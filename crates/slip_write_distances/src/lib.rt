@@ -39,15 +39,13 @@ fn read_block(
 {
     let at = order[k] as usize;
     let count = final_block_votes::include_count_at(store, at);
-    let mut j: usize = 0;
-    while j < count {
+    for j in 0..count {
         let i = final_block_votes::place_of(
             store,
             order,
             final_block_votes::include_at(store, at, j),
         );
         slip_write_rows::fold_include(near, steps, k, i, j as u8);
-        j += 1;
     }
     note_own(store, order, locator, k, near);
 }
@@ -63,9 +61,7 @@ pub fn find_distances(
     requires { (SortedStore store.now order.now × (length order.now ≤ 1024)) × Distances store.now order.now (as_locator locator) near.old steps.old 0 }
     ensures { Distances store.now order.now (as_locator locator) near.new steps.new (length order.now) }
 {
-    let mut k: usize = 0;
-    while k < order.len() {
+    for k in 0..order.len() {
         read_block(store, order, locator, k, near, steps);
-        k += 1;
     }
 }

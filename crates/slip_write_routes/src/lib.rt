@@ -70,11 +70,9 @@ pub fn voters_size(near: &[u16], k: usize, voters: AuthoritySet) -> usize
     ensures upper_bound { result ≤ 8389632 }
 {
     let mut size: usize = 0;
-    let mut a: usize = 0;
-    while a < committee::MAX_MEMBERS {
+    for a in 0..committee::MAX_MEMBERS {
         let more = 9 + near[committee::MAX_MEMBERS * k + a] as usize;
         let votes = voters.contains(AuthorityIndex(a as u64));
-        a += 1;
         if !votes {
             continue;
         }
@@ -99,14 +97,11 @@ pub fn write_voters(
     ensures out_after { (l : TransactionLocator) → Distances store.now order.now l near.now steps.now (length order.now) → out.new ≡ sets out.old at (voters_at store.now order.now l k voters) }
 {
     let mut to = at;
-    let mut a: usize = 0;
-    while a < committee::MAX_MEMBERS {
-        let author = a;
-        a += 1;
-        if !voters.contains(AuthorityIndex(author as u64)) {
+    for a in 0..committee::MAX_MEMBERS {
+        if !voters.contains(AuthorityIndex(a as u64)) {
             continue;
         }
-        to = write_voter(store, order, near, steps, k, author, out, to);
+        to = write_voter(store, order, near, steps, k, a, out, to);
     }
     to
 }

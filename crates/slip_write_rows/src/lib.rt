@@ -22,12 +22,10 @@ pub fn fold_include(near: &mut [u16], steps: &mut [u8], k: usize, i: usize, j: u
     requires { ((length near.old ≡ 131072) × (length steps.old ≡ 131072)) × (((i < k) × (k < 1024)) × ((a : ℕ) → a < 128 → get_or near.old (128 * i + a) 0 < 65535)) }
     ensures { Folded near.old steps.old k i j near.new steps.new 128 }
 {
-    let mut a: usize = 0;
-    while a < committee::MAX_MEMBERS {
+    for a in 0..committee::MAX_MEMBERS {
         let found = near[committee::MAX_MEMBERS * i + a];
         let at = committee::MAX_MEMBERS * k + a;
         let held = near[at];
-        a += 1;
         if !is_nearer(found, held) {
             continue;
         }

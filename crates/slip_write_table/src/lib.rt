@@ -60,12 +60,10 @@ pub fn list_certifiers(
     requires { (SortedStore store.now order.now × RemembersBoth store.now order.now (as_locator locator) memo.old) × (((i : ℕ) → i < length positions.now → get_or positions.now i 0 ∈ order.now) × (3 * length positions.now ≤ length certifiers.old)) }
     ensures { Listed (as_reading reading) store.now order.now (as_locator locator) positions.now certifiers.new (length positions.now) }
 {
-    let mut i: usize = 0;
-    while i < positions.len() {
+    for i in 0..positions.len() {
         let block = store_entries::reference_at(store, positions[i] as usize);
         let k = final_block_votes::place_of(store, order, block);
         let voters = voters_at(store, order, locator, reading, k, memo);
         note_certifier(certifiers, i, k, voters);
-        i += 1;
     }
 }

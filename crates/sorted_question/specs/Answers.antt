@@ -1,10 +1,11 @@
 -- What the code's answer says. Assumes nothing: these are definitions.
 use Rattle.std.specs.Prelude.{ℕ}
 use Rattle.base.specs.Checks.{Answer, refused, answered}
-use Rattle.sorted_question.specs.declared.SortedAnswer.{SortedAnswer}
-use Rattle.sorted_question.specs.declared.SortedAnswer.TheVariants.{Replies, Refused}
+use Rattle.std.specs.Prelude.{Err, Ok, Result}
+use Rattle.base.specs.declared.refusal.Refusal.{Refusal}
+use Rattle.base.specs.Refusals.{refusal_number}
 
 -- the number of locators; or 5, 10, 54, 62, 63
-unfoldable pub as_sorted : SortedAnswer → Answer ℕ
-as_sorted (Replies n) = answered n
-as_sorted (Refused k) = refused k
+unfoldable pub as_sorted : Result ℕ Refusal → Answer ℕ
+as_sorted (Ok n) = answered n
+as_sorted (Err k) = refused (refusal_number k)

@@ -5,7 +5,7 @@ use native.Mathlib.Omega.{arith}
 use Rattle.record_spec.specs.Reference.{TransactionLocator}
 use Rattle.record_spec.proofs.References.{reference_same}
 use Rattle.types.specs.Values.{reference_order}
-use Rattle.types.specs.declared.Ordering.TheVariants.{Less, Equal, Greater}
+use Rattle.std.specs.declared.cmp.Ordering.TheVariants.{Less, Equal, Greater}
 use Rattle.types.proofs.Words.{compared_equal, compared_less, compared_greater}
 use Rattle.index_spec.specs.Runs.{Run}
 use Rattle.index_spec.specs.Walk.{by_block, by_offset}

@@ -17,7 +17,8 @@ ghost use Rattle.sorted_step.specs.Step.{Beside, reply_from, step_words, Settled
 use committee::{AuthorityIndex, Stake};
 use committee_set::AuthoritySet;
 use index_runs::Run;
-use types::{Ordering, TransactionLocator};
+use std::cmp::Ordering;
+use types::TransactionLocator;
 
 // How a locator stands to a run.
 #[derive(Clone, Copy)]

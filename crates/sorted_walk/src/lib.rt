@@ -22,14 +22,12 @@ pub fn is_sorted_list(locators: &[u8]) -> bool
         return false;
     }
     let n = locators.len() / types::LOCATOR_BYTES;
-    let mut i: usize = 1;
-    while i < n {
+    for i in 1..n {
         let last = record_reference_bytes::read_locator(locators, types::LOCATOR_BYTES * (i - 1));
         let next = record_reference_bytes::read_locator(locators, types::LOCATOR_BYTES * i);
         if types::locator_before(next, last) {
             return false;
         }
-        i += 1;
     }
     true
 }
@@ -40,11 +38,7 @@ pub fn is_sorted_list(locators: &[u8]) -> bool
 fn clear(replies: &mut [u64])
     ensures { replies.new ≡ replicate (length replies.old) 0 }
 {
-    let mut i: usize = 0;
-    while i < replies.len() {
-        replies[i] = 0;
-        i += 1;
-    }
+    replies.fill(0);
 }
 
 // One step for each of the first stored blocks in order of arrival: its record and its part stand where those before it end. After so many steps the
@@ -63,8 +57,7 @@ fn step_all(
 {
     let mut at: usize = 16;
     let mut p: usize = 1;
-    let mut k: usize = 0;
-    while k < steps {
+    for k in 0..steps {
         let from = at + 8;
         let end = store_entries::record_end(store, at);
         let next = p + 1 + index_runs::RUN_WORDS * (index[p] as usize);
@@ -78,7 +71,6 @@ fn step_all(
         );
         at = end;
         p = next;
-        k += 1;
     }
 }
 

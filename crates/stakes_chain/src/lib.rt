@@ -7,13 +7,6 @@ ghost use Rattle.stakes_chain.specs.Chain.{chain_of};
 ghost use Rattle.stakes_chain.specs.Answers.{as_chain, count_fits};
 ghost use Rattle.stakes_chain.specs.Claims.{Claims};
 
-// The number of members on the chain, or that it is broken.
-#[derive(Clone, Copy)]
-pub enum ChainAnswer {
-    Members(usize),
-    Broken,
-}
-
 const MOST_BYTES: usize = 65536;
 
 // Whether the bytes are an index and whole records, and not too many.
@@ -37,29 +30,29 @@ pub fn place(i: u16) -> usize
     2 + 26 * ((i as usize) - 1)
 }
 
-// Walks along the chain, at most one step for each record, and puts its indexes in front.
-pub fn chain(file: &[u8], indexes: &mut [u16]) -> ChainAnswer
+// Walks along the chain, at most one step for each record, and puts its indexes in front: how many they are, or none where the chain is broken.
+pub fn chain(file: &[u8], indexes: &mut [u16]) -> Option<usize>
     requires { length indexes.old ≡ 2520 }
     ensures { count_fits result × (as_chain result indexes.new ≡ chain_of file.now) }
 {
     if !well_sized(file) {
-        return ChainAnswer::Broken;
+        return None;
     }
     let count = (file.len() - 2) / 26;
     let mut n = 0;
     let mut i = base::read_u16(file, 0);
     while i != 0 {
         if n == count {
-            return ChainAnswer::Broken; // so many steps without an end: some index comes a second time
+            return None; // so many steps without an end: some index comes a second time
         }
         if count < (i as usize) {
-            return ChainAnswer::Broken; // past the last record
+            return None; // past the last record
         }
         indexes[n] = i;
         n += 1;
         i = base::read_u16(file, place(i));
     }
-    ChainAnswer::Members(n)
+    Some(n)
 }
 
 // The chain that is walked is the one that 02 wants; there is one at most, and records off it do not change it.

@@ -18,27 +18,28 @@ use Rattle.committee.proofs.Bounds.{few_members}
 use Rattle.stakes_chain.specs.Chain.{chain_of}
 use Rattle.stakes_names.specs.Names.{name_at, good_names}
 use Rattle.base.proofs.Checks.{refused_answered}
-use Rattle.stakes_file.specs.declared.LoadAnswer.{LoadAnswer}
-use Rattle.stakes_file.specs.declared.LoadAnswer.TheVariants.{Members, Refused}
 use Rattle.stakes_file.specs.Load.{members_at, load_along, load, loaded_into}
 use Rattle.stakes_file.specs.Answers.{as_load, stakes_in, members_at_most}
 use Rattle.stakes_file.proofs.Loaded.{refused_same, small_refusal, load_empty, load_broken, load_some, along_bad, along_good}
 use Rattle.stakes_file.proofs.Claimed.{load_sound}
+use Rattle.std.specs.Prelude.{Err, Ok, Result}
+use Rattle.base.specs.declared.refusal.Refusal.{Refusal}
+use Rattle.base.specs.Refusals.{refusal_number}
 
 -- a table that is loaded has at most 128 members
 pub load_few : (f : Bytes) (c : Committee) → load f ≡ answered c → length c ≤ 128
 load_few f c e = few_members c (load_sound f c e)
 
-module _ (words out : List ℕ) (r : LoadAnswer) (room : 128 ≤ length words) where
+module _ (words out : List ℕ) (r : Result ℕ Refusal) (room : 128 ≤ length words) where
   front : (a : Answer Committee) → ((c : Committee) → a ≡ answered c → length c ≤ 128) → as_load r ≡ (loaded_into a words).answer → out ≡ (loaded_into a words
       ).stakes
       → members_at_most 128 r × (stakes_in r out ≡ a)
   unfolding as_load loaded_into stakes_in
   front (refused k) few h e = told r h
     where
-      told : (q : LoadAnswer) → as_load q ≡ refused k → members_at_most 128 q × (stakes_in q out ≡ refused k)
-      told (Members n) g = absurd (refused_answered {x = n} g refl)
-      told (Refused n) g = let z : n ≡ k = cc in (omega arith, ap refused z)
+      told : (q : Result ℕ Refusal) → as_load q ≡ refused k → members_at_most 128 q × (stakes_in q out ≡ refused k)
+      told (Ok n) g = absurd (refused_answered {x = n} g refl)
+      told (Err n) g = let z : refusal_number n ≡ k = cc in (omega arith, ap refused z)
   front (answered c) few h e = told r (rw fits at h) (rw fits at e)
     where
       small : length c ≤ 128
@@ -47,19 +48,19 @@ module _ (words out : List ℕ) (r : LoadAnswer) (room : 128 ≤ length words) w
       fits : leb (length c) (length words) ≡ true
       fits = le-leb (length c) (length words) (omega (arith, small))
 
-      told : (q : LoadAnswer) → as_load q ≡ answered (length c) → out ≡ sets words 0 c → members_at_most 128 q × (stakes_in q out ≡ answered c)
-      told (Members n) g d =
+      told : (q : Result ℕ Refusal) → as_load q ≡ answered (length c) → out ≡ sets words 0 c → members_at_most 128 q × (stakes_in q out ≡ answered c)
+      told (Ok n) g d =
           let z : n ≡ length c = cc in
           (omega (arith, small), ap answered (rw (d, sets-eq c words 0 (omega (arith, small))) (take_at c _ n (sym z))))
-      told (Refused n) g d = absurd (refused_answered {n = n} refl g)
+      told (Err n) g d = absurd (refused_answered {n = refusal_number n} refl g)
 
   pub loaded_front : (f : Bytes) → as_load r ≡ (loaded_into (load f) words).answer → out ≡ (loaded_into (load f) words).stakes
       → members_at_most 128 r × (stakes_in r out ≡ load f)
   loaded_front f h e = front (load f) (load_few f) h e
 
-pub at_most : (m n : ℕ) (r : LoadAnswer) → m ≤ n → members_at_most m r → members_at_most n r
-at_most m n (Members k) l h = omega arith
-at_most m n (Refused k) l h = omega arith
+pub at_most : (m n : ℕ) (r : Result ℕ Refusal) → m ≤ n → members_at_most m r → members_at_most n r
+at_most m n (Ok k) l h = omega arith
+at_most m n (Err k) l h = omega arith
 
 -- the numbers of loading are at most 57
 pub load_most : (f : Bytes) (n : ℕ) → load f ≡ refused n → n ≤ 57
@@ -81,5 +82,5 @@ load_most f n e = go (is_empty f) refl
     go true h = absurd (refused_answered e (load_empty f h))
     go false h = chained h (chain_of f) refl
 
-pub members_fit : (m n : ℕ) (r : LoadAnswer) → r ≡ Members n → members_at_most m r → n ≤ m
+pub members_fit : (m n : ℕ) (r : Result ℕ Refusal) → r ≡ Ok n → members_at_most m r → n ≤ m
 members_fit m n r e h = rw e at h

@@ -14,16 +14,17 @@ use Rattle.base.specs.Le.{Bytes}
 use Rattle.committee.specs.Committee.{Committee, broken, total_stake, committee_checks, new_committee, course_committee}
 use Rattle.committee.specs.Answers.{as_new_committee}
 use Rattle.committee.specs.declared.Stake as code-stake
-use Rattle.committee.specs.declared.NewCommittee.TheVariants.{Taken, Broken}
 use Rattle.stakes_chain.specs.Layout.{well_sized}
 use Rattle.stakes_chain.specs.Chain.{Chained, chain_of}
 use Rattle.stakes_chain.specs.Answers.{as_chain, count_fits}
-use Rattle.stakes_chain.specs.declared.ChainAnswer.{ChainAnswer}
-use Rattle.stakes_chain.specs.declared.ChainAnswer.TheVariants.{Members, Broken as ChainBroken}
 use Rattle.stakes_chain.proofs.Chains.{found_chain}
 use Rattle.stakes_names.specs.Names.{name_at, good_names}
 use Rattle.base.proofs.Checks.{refused_answered, checked_answered}
 use Rattle.stakes_file.specs.Load.{members_at, member_checks, load_along, load}
+use Rattle.std.specs.Prelude.{None, Some, Option}
+use Rattle.std.specs.Prelude.{Err, Ok}
+use Rattle.base.specs.declared.refusal.Refusal.{Refusal}
+use Rattle.base.specs.Refusals.{refusal_number}
 
 -- ---- answers and refusals
 
@@ -102,13 +103,14 @@ module _ (f : Bytes) where
 -- ---- for the code
 
 -- a committee that is taken, and one that is not
-pub committee_taken : (c : Committee) (t : code-stake.Stake) → as_new_committee (Taken t) ≡ new_committee c → checked (committee_checks c) c ≡ answered c
+pub committee_taken : (c : Committee) (t : code-stake.Stake) → as_new_committee (Ok t) ≡ new_committee c → checked (committee_checks c) c ≡ answered c
 unfolding as_new_committee new_committee
 committee_taken c t h = checked_passes (committee_checks c) c (checked_answered (committee_checks c) (total_stake c) t.0 (sym h)).0
 
-pub committee_broken : (c : Committee) (n : ℕ) → as_new_committee (Broken n) ≡ new_committee c → checked (committee_checks c) c ≡ refused n
+pub committee_broken : (c : Committee) (r : Refusal) → as_new_committee (Err r) ≡ new_committee c → checked (committee_checks c) c ≡ refused
+    (refusal_number r)
 unfolding as_new_committee new_committee
-committee_broken c n h = checked_refused (committee_checks c) (total_stake c) c n (sym h)
+committee_broken c r h = checked_refused (committee_checks c) (total_stake c) c (refusal_number r) (sym h)
 
 -- a file without bytes
 pub load_nothing : (f : Bytes) → length f ≡ 0 → load f ≡ answered course_committee
@@ -122,14 +124,14 @@ some_bytes [] n = absurd (n refl)
 some_bytes (x ∷ f) n = refl
 
 -- what the walk along the chain tells
-pub chain_fits : (r : ChainAnswer) (n : ℕ) → r ≡ Members n → count_fits r → n ≤ 2520
+pub chain_fits : (r : Option ℕ) (n : ℕ) → r ≡ Some n → count_fits r → n ≤ 2520
 chain_fits r n e h = rw e at h
 
-module _ (f : Bytes) (is : List ℕ) (r : ChainAnswer) (h : as_chain r is ≡ chain_of f) where
-  pub chain_told : (n : ℕ) → r ≡ Members n → chain_of f ≡ some (take n is)
+module _ (f : Bytes) (is : List ℕ) (r : Option ℕ) (h : as_chain r is ≡ chain_of f) where
+  pub chain_told : (n : ℕ) → r ≡ Some n → chain_of f ≡ some (take n is)
   unfolding as_chain
   chain_told n e = sym (rw e at h)
 
-  pub chain_broken : r ≡ ChainBroken → chain_of f ≡ none
+  pub chain_broken : r ≡ None → chain_of f ≡ none
   unfolding as_chain
   chain_broken e = sym (rw e at h)

@@ -2,20 +2,21 @@
 use Rattle.std.specs.Prelude.{ℕ, ◌≤◌, List, take}
 use Rattle.base.specs.Checks.{Answer, refused, answered}
 use Rattle.committee.specs.Committee.{Committee}
-use Rattle.stakes_file.specs.declared.LoadAnswer.{LoadAnswer}
-use Rattle.stakes_file.specs.declared.LoadAnswer.TheVariants.{Members, Refused}
+use Rattle.std.specs.Prelude.{Err, Ok, Result}
+use Rattle.base.specs.declared.refusal.Refusal.{Refusal}
+use Rattle.base.specs.Refusals.{refusal_number}
 
 -- the number of members, or the first refusal
-unfoldable pub as_load : LoadAnswer → Answer ℕ
-as_load (Members n) = answered n
-as_load (Refused n) = refused n
+unfoldable pub as_load : Result ℕ Refusal → Answer ℕ
+as_load (Ok n) = answered n
+as_load (Err n) = refused (refusal_number n)
 
 -- the stakes that stand in front of what was lent, or the refusal
-unfoldable pub stakes_in : LoadAnswer → List ℕ → Answer Committee
-stakes_in (Members n) words = answered (take n words)
-stakes_in (Refused n) words = refused n
+unfoldable pub stakes_in : Result ℕ Refusal → List ℕ → Answer Committee
+stakes_in (Ok n) words = answered (take n words)
+stakes_in (Err n) words = refused (refusal_number n)
 
 -- machinery for the contracts of inner functions
-abbrev pub members_at_most : ℕ → LoadAnswer → Type 0
-members_at_most m (Members n) = n ≤ m
-members_at_most m (Refused n) = 0 ≤ m
+abbrev pub members_at_most : ℕ → Result ℕ Refusal → Type 0
+members_at_most m (Ok n) = n ≤ m
+members_at_most m (Err n) = 0 ≤ m

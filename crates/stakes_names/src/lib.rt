@@ -28,12 +28,10 @@ fn good_name(name: &[u8]) -> bool
     if name[0] == 0 {
         return false;
     }
-    let mut i = 1;
-    while i < name.len() {
+    for i in 1..name.len() {
         if name[i - 1] == 0 && name[i] != 0 {
             return false;
         }
-        i += 1;
     }
     true
 }
@@ -43,12 +41,10 @@ fn differs(file: &[u8], name: &[u8], indexes: &[u16]) -> bool
     requires { Inside file.now indexes.now }
     ensures { result ≡ all_of (λ n. not (same name.now n)) (map (name_at file.now) indexes.now) }
 {
-    let mut j = 0;
-    while j < indexes.len() {
+    for j in 0..indexes.len() {
         if check::same(name, name_at(file, indexes[j])) {
             return false;
         }
-        j += 1;
     }
     true
 }

@@ -6,7 +6,7 @@ ghost use Rattle.base.specs.Lists.{pairwise};
 ghost use Rattle.store_spec.specs.Store.{records_of};
 ghost use Rattle.store_spec.specs.Entry.{positions, sorted_positions, is_in, readable, chained, is_entry, none_or_entry, follows};
 
-use types::Ordering;
+use std::cmp::Ordering;
 
 // Whether a number is among ascending numbers.
 fn contains(sorted: &[u64], x: u64) -> bool
@@ -57,8 +57,7 @@ pub fn chain_right(store: &[u8], starts: &[u64], order: &mut [u64]) -> bool
 {
     let mut at = base::read_u32(store, 0) as usize;
     let mut last: usize = 0;
-    let mut k: usize = 0;
-    while k < starts.len() {
+    for k in 0..starts.len() {
         if !contains(starts, at as u64) {
             return false;
         }
@@ -68,7 +67,6 @@ pub fn chain_right(store: &[u8], starts: &[u64], order: &mut [u64]) -> bool
         order[k] = at as u64;
         last = at;
         at = base::read_u32(store, at) as usize;
-        k = k + 1;
     }
     at == 0
 }

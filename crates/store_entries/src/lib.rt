@@ -9,7 +9,6 @@ ghost use Rattle.store_spec.specs.Store.{records_of};
 ghost use Rattle.store_spec.specs.Entry.{block_at, sorted_positions, laid_out, is_entry};
 
 use committee::AuthorityIndex;
-use record_reference_search::FoundPlace;
 use types::BlockReference;
 
 // Where the record of the entry at a position ends. It begins 8 bytes after the position.
@@ -43,7 +42,7 @@ pub fn find_ordered(store: &[u8], order: &[u64], block: BlockReference) -> usize
     requires { (laid_out store.now ≡ true) × (order.now ≡ sorted_positions (records_of store.now)) }
     ensures { result ≡ position_of (lookup (entries (records_of store.now)) (as_reference block)) }
 {
-    let FoundPlace::At(k) = record_reference_search::find_place(store, order, 8, block) else {
+    let Ok(k) = record_reference_search::find_place(store, order, 8, block) else {
         return 0;
     };
     order[k] as usize

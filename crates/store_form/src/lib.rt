@@ -41,8 +41,7 @@ pub fn entries_readable(store: &[u8], starts: &mut [u64]) -> bool
     let used = base::read_u32(store, 4) as usize;
     let count = base::read_u16(store, 8) as usize;
     let mut at: usize = 16;
-    let mut i: usize = 0;
-    while i < count {
+    for i in 0..count {
         if store.len() - at < 8 {
             return false;
         }
@@ -57,7 +56,6 @@ pub fn entries_readable(store: &[u8], starts: &mut [u64]) -> bool
         }
         starts[i] = at as u64;
         at = end;
-        i = i + 1;
     }
     at == used
 }

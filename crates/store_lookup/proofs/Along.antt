@@ -14,7 +14,7 @@ use Rattle.base.proofs.Members.{in_append, in_right}
 use Rattle.record_spec.specs.Reference.{BlockReference, reference_before}
 use Rattle.record_spec.specs.Block.{Block}
 use Rattle.types.specs.Values.{reference_order}
-use Rattle.types.specs.declared.Ordering.TheVariants.{Less, Equal, Greater}
+use Rattle.std.specs.declared.cmp.Ordering.TheVariants.{Less, Equal, Greater}
 use Rattle.record_spec.proofs.References.{reference_same, reference_irrefl, reference_trans}
 use Rattle.store_spec.specs.Layout.{Entry, reference_of, entries, position_of, first_position, ascending, lookup}
 use Rattle.store_spec.specs.Store.{block_count, records_of}

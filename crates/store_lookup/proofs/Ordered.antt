@@ -18,11 +18,9 @@ use Rattle.record_spec.specs.Reference.{BlockReference, reference_before}
 use Rattle.record_spec.specs.Block.{Block}
 use Rattle.record_spec.specs.Record.{no_block}
 use Rattle.record_reference_search.specs.Places.{reference_from, Between, FoundAmong}
-use Rattle.record_reference_search.specs.declared.FoundPlace.{FoundPlace}
-use Rattle.record_reference_search.specs.declared.FoundPlace.TheVariants.{At, Before}
 use Rattle.record_spec.proofs.References.{reference_same, reference_trans}
 use Rattle.types.specs.Values.{reference_order}
-use Rattle.types.specs.declared.Ordering.TheVariants.{Less, Equal, Greater}
+use Rattle.std.specs.declared.cmp.Ordering.TheVariants.{Less, Equal, Greater}
 use Rattle.types.proofs.Words.{compared_less, compared_equal, compared_greater}
 use Rattle.store_spec.specs.Layout.{Entry, reference_of, entries, position_of, ascending, lookup}
 use Rattle.store_spec.specs.Accept.{is_stored}
@@ -36,6 +34,7 @@ use Rattle.store_spec.proofs.Search.{laid_out_lem, reference_in, order_entry, or
 use Rattle.store_spec.proofs.Visit.{ascending_in}
 use Rattle.store_entries.proofs.Placed.{entry_reference}
 use Rattle.store_lookup.specs.Step.{LastAt, none_last, last_at, Neighbours}
+use Rattle.std.specs.Prelude.{Err, Ok, Result}
 
 -- the position before a place, zero before the first
 pub place_before : (order : List ℕ) (k : ℕ) → (k ≡ 0 → ⊥) → get_or order (k - 1) 0 ≡ get_or (0 ∷ order) k 0
@@ -76,7 +75,7 @@ module _ (s : Bytes) (h : laid_out s ≡ true) (order : List ℕ) (q : order ≡
       ∙ ap (λ (b : Block). b.reference) (block_of_entry s (laid_out_lem s h).reads (get_or asc j no_entry) (stored j l))
 
   -- the reference of a block that is not stored is found nowhere
-  pub found_not : (r : BlockReference) (p : FoundPlace) (j : ℕ) → p ≡ At j → FoundAmong (length order) (reference_from s order 8) r p → is_stored (records_of s)
+  pub found_not : (r : BlockReference) (p : Result ℕ ℕ) (j : ℕ) → p ≡ Ok j → FoundAmong (length order) (reference_from s order 8) r p → is_stored (records_of s)
       r ≡ false → ⊥
   unfolding FoundAmong
   found_not r p j e f new =
@@ -97,12 +96,12 @@ module _ (s : Bytes) (h : laid_out s ≡ true) (order : List ℕ) (q : order ≡
       go (no l) = get_or-eq_default order 0 {n = k} (omega (arith, many)) ∙ rw (drop_of_length-le asc {i = k} (omega arith))
 
   -- where it goes there are so many before it
-  pub goes_within : (r : BlockReference) (p : FoundPlace) (k : ℕ) → p ≡ Before k → FoundAmong (length order) (reference_from s order 8) r p → k ≤ length order
+  pub goes_within : (r : BlockReference) (p : Result ℕ ℕ) (k : ℕ) → p ≡ Err k → FoundAmong (length order) (reference_from s order 8) r p → k ≤ length order
   unfolding FoundAmong
   goes_within r p k e f = (subst (FoundAmong (length order) (reference_from s order 8) r) e f).most
 
   -- it goes between those before its place and those from there on
-  pub goes_between : (r : BlockReference) (p : FoundPlace) (k : ℕ) → p ≡ Before k → FoundAmong (length order) (reference_from s order 8) r p
+  pub goes_between : (r : BlockReference) (p : Result ℕ ℕ) (k : ℕ) → p ≡ Err k → FoundAmong (length order) (reference_from s order 8) r p
       → Neighbours s r (get_or (0 ∷ order) k 0) (get_or order k 0)
   unfolding FoundAmong
   goes_between r p k e f =

@@ -10,8 +10,8 @@ ghost use Rattle.store_spec.specs.Store.{records_of};
 ghost use Rattle.store_spec.specs.Entry.{laid_out, sorted_positions};
 ghost use Rattle.store_lookup.specs.Step.{Neighbours};
 
-use record_reference_search::FoundPlace;
-use types::{BlockReference, Ordering};
+use std::cmp::Ordering;
+use types::BlockReference;
 
 // The position of the block of that reference, along the chain; zero where it is not stored.
 pub fn lookup(store: &[u8], block: BlockReference) -> usize
@@ -71,7 +71,7 @@ pub fn chain_place(store: &[u8], order: &[u64], block: BlockReference) -> Place
     requires { (laid_out store.now ≡ true) × ((order.now ≡ sorted_positions (records_of store.now)) × (is_stored (records_of store.now) (as_reference block) ≡ false)) }
     ensures { Neighbours store.now (as_reference block) result.below result.above }
 {
-    let FoundPlace::Before(k) = record_reference_search::find_place(store, order, 8, block) else {
+    let Err(k) = record_reference_search::find_place(store, order, 8, block) else {
         // Never so: the block is not stored.
         return Place { below: 0, above: 0 };
     };

@@ -11,7 +11,7 @@ ghost use Rattle.store_spec.specs.Store.{records_of, store_in_order};
 ghost use Rattle.store_spec.specs.Entry.{positions, sorted_positions, laid_out, is_entry};
 ghost use Rattle.store_spec.specs.Check.{stored_before, accepted_at};
 
-use committee::{NewCommittee, Stake};
+use committee::Stake;
 
 // Whether every include of a record is stored before a position.
 fn includes_before(store: &[u8], order: &[u64], rec: &[u8], at: usize) -> bool
@@ -19,8 +19,7 @@ fn includes_before(store: &[u8], order: &[u64], rec: &[u8], at: usize) -> bool
     ensures { result ≡ all_of (stored_before (entries (records_of store.now)) at) (block_in rec.now).includes }
 {
     let count = record_reader::include_count(rec);
-    let mut k: usize = 0;
-    while k < count {
+    for k in 0..count {
         let p = store_entries::find_ordered(store, order, record_reader::include(rec, k));
         if p == 0 {
             return false;
@@ -28,7 +27,6 @@ fn includes_before(store: &[u8], order: &[u64], rec: &[u8], at: usize) -> bool
         if at <= p {
             return false;
         }
-        k = k + 1;
     }
     true
 }
@@ -40,10 +38,10 @@ fn entry_accepted(stakes: &[u64], total: Stake, store: &[u8], order: &[u64], at:
 {
     let from = at + 8;
     let end = store_entries::record_end(store, at);
-    if record_clock::head_refusal(stakes, &store[from..end]) != 0 {
+    if record_clock::head_refusal(stakes, &store[from..end]).is_err() {
         return false;
     }
-    if record_clock::body_refusal(stakes, total, &store[from..end]) != 0 {
+    if record_clock::body_refusal(stakes, total, &store[from..end]).is_err() {
         return false;
     }
     includes_before(store, order, &store[from..end], at)
@@ -60,13 +58,11 @@ fn accepted_in_turn(
     requires { ((broken stakes.now ≡ false) × (total.0 ≡ total_stake stakes.now)) × ((laid_out store.now ≡ true) × ((order.now ≡ sorted_positions (records_of store.now)) × (starts.now ≡ positions (records_of store.now)))) }
     ensures { result ≡ all_accepted stakes.now (records_of store.now) }
 {
-    let mut i: usize = 0;
-    while i < starts.len() {
-        let at = starts[i] as usize;
+    for start in starts {
+        let at = *start as usize;
         if !entry_accepted(stakes, total, store, order, at) {
             return false;
         }
-        i = i + 1;
     }
     true
 }
@@ -76,7 +72,7 @@ fn all_accepted(stakes: &[u64], store: &[u8], starts: &[u64], order: &[u64]) -> 
     requires { (broken stakes.now ≡ false) × ((laid_out store.now ≡ true) × ((order.now ≡ sorted_positions (records_of store.now)) × (starts.now ≡ positions (records_of store.now)))) }
     ensures { result ≡ all_accepted stakes.now (records_of store.now) }
 {
-    let NewCommittee::Taken(total) = committee::new_committee(stakes) else {
+    let Ok(total) = committee::new_committee(stakes) else {
         // Never so: the committee is not broken.
         return false;
     };

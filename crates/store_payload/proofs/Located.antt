@@ -35,7 +35,7 @@ use Rattle.store_spec.specs.Entry.{record_at, block_at, laid_out, is_entry}
 use Rattle.store_spec.specs.Payload.{StoreStretch, share_stretch, payload_of, payload_at, payload_checks, stretch_of, payload, payload_length}
 use Rattle.base.proofs.Lists.{element_at}
 use Rattle.store_payload.specs.Answers.{shared_by, as_share, share_within, payload_place}
-use Rattle.store_payload.specs.declared.SharePlace.TheVariants.{NoShare}
+use Rattle.std.specs.Prelude.{None}
 use Rattle.store_spec.proofs.Loops.{block_of_entry}
 use Rattle.store_spec.proofs.Shares.{share_has_payload}
 use Rattle.store_spec.proofs.Search.{laid_out_lem}
@@ -48,7 +48,7 @@ element_past [] i h = refl
 element_past (x ∷ xs) zero h = absurd (omega arith)
 element_past (x ∷ xs) (suc i) h = element_past xs i (omega arith)
 
-pub share_past : (rec : Bytes) (o : ℕ) → length (block_in rec).statements ≤ o → as_share NoShare ≡ share_stretch (statement_start rec o)
+pub share_past : (rec : Bytes) (o : ℕ) → length (block_in rec).statements ≤ o → as_share None ≡ share_stretch (statement_start rec o)
     (get_elem? (block_in rec).statements o)
 unfolding as_share share_stretch
 share_past rec o h = rw (element_past (block_in rec).statements o h)

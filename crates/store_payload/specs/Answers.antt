@@ -8,46 +8,44 @@ use Rattle.record_spec.specs.Reference.{TransactionLocator}
 use Rattle.record_statement.specs.declared.BaseStatement.{BaseStatement}
 use Rattle.record_statement.specs.declared.BaseStatement.TheVariants.{Share, Accept, Reject, RejectFor, VoteRange}
 use Rattle.store_spec.specs.Payload.{StoreStretch, payload_at, payload_checks}
-use Rattle.store_payload.specs.declared.SharePlace.{SharePlace}
-use Rattle.store_payload.specs.declared.SharePlace.TheVariants.{Payload, NoShare}
-use Rattle.store_payload.specs.declared.PayloadPlace.{PayloadPlace}
-use Rattle.store_payload.specs.declared.PayloadPlace.TheVariants.{Stands, Refused}
-use Rattle.store_payload.specs.declared.PayloadLength.{PayloadLength}
-use Rattle.store_payload.specs.declared.PayloadLength.TheVariants.{Bytes as Counted, Refused as Unanswered}
+use Rattle.std.specs.Prelude.{Some, None, Err, Ok, Result}
+use Rattle.std.specs.declared.option.Option as code
+use Rattle.base.specs.declared.refusal.Refusal.{Refusal}
+use Rattle.base.specs.Refusals.{refusal_number}
 
 -- a payload's length, or 5, 10, 41
-unfoldable pub as_payload_length : PayloadLength → Answer ℕ
-as_payload_length (Counted n) = answered n
-as_payload_length (Unanswered k) = refused k
+unfoldable pub as_payload_length : Result ℕ Refusal → Answer ℕ
+as_payload_length (Ok n) = answered n
+as_payload_length (Err k) = refused (refusal_number k)
 
 -- ---- machinery for the contracts of inner functions
 
 -- the payload of a statement that is a share
-unfoldable pub shared_by : BaseStatement → SharePlace
-shared_by (Share start len) = Payload start len
-shared_by (Accept l) = NoShare
-shared_by (Reject l) = NoShare
-shared_by (RejectFor l other) = NoShare
-shared_by (VoteRange r) = NoShare
+unfoldable pub shared_by : BaseStatement → code.Option (ℕ × ℕ)
+shared_by (Share start len) = Some (start, len)
+shared_by (Accept l) = None
+shared_by (Reject l) = None
+shared_by (RejectFor l other) = None
+shared_by (VoteRange r) = None
 
 -- where a record has a share's payload
-unfoldable pub as_share : SharePlace → Option StoreStretch
-as_share (Payload start count) = some (record { start = start; count = count })
-as_share NoShare = none
+unfoldable pub as_share : code.Option (ℕ × ℕ) → Option StoreStretch
+as_share (Some (start, count)) = some (record { start = start; count = count })
+as_share None = none
 
 -- it lies in so many bytes
-unfoldable pub share_within : ℕ → SharePlace → Bool
-share_within n (Payload start count) = leb (start + count) n
-share_within n NoShare = true
+unfoldable pub share_within : ℕ → code.Option (ℕ × ℕ) → Bool
+share_within n (Some (start, count)) = leb (start + count) n
+share_within n None = true
 
 -- where the store has it, or 5, 10, 41
-unfoldable pub as_place : PayloadPlace → Answer StoreStretch
-as_place (Stands start count) = answered (record { start = start; count = count })
-as_place (Refused k) = refused k
+unfoldable pub as_place : Result (ℕ × ℕ) Refusal → Answer StoreStretch
+as_place (Ok (start, count)) = answered (record { start = start; count = count })
+as_place (Err k) = refused (refusal_number k)
 
-unfoldable pub place_within : ℕ → PayloadPlace → Bool
-place_within n (Stands start count) = leb (start + count) n
-place_within n (Refused k) = true
+unfoldable pub place_within : ℕ → Result (ℕ × ℕ) Refusal → Bool
+place_within n (Ok (start, count)) = leb (start + count) n
+place_within n (Err k) = true
 
 unfoldable pub payload_place : Committee → Bytes → TransactionLocator → Answer StoreStretch
 payload_place c s l = checked (payload_checks c s l) (get_or (payload_at s l) (record { start = 0; count = 0 }))

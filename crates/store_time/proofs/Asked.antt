@@ -1,19 +1,29 @@
 -- The question about a time, refusal by refusal. Assumes nothing.
-use mathlib.Core.Path.{◌≡◌, sym, ap}
+use mathlib.Core.Path.{◌≡◌, refl, sym, ap}
 use mathlib.Core.Bool.{true, false}
 use mathlib.Core.Option.{Option, none}
 use Prim.Native.Nat.{ℕ}
+use Rattle.std.specs.Prelude.{Some, None, Ok}
+use Rattle.std.specs.declared.option.Option as code
 use Rattle.base.specs.Lists.{all_of}
 use Rattle.base.specs.Le.{Bytes}
 use Rattle.base.specs.Checks.{refusal, passes, refused, answered, checked}
 use Rattle.committee.specs.Committee.{Committee, broken}
 use Rattle.record_spec.specs.Reference.{BlockReference}
 use Rattle.record_spec.specs.Record.{time_in}
+use Rattle.record_reader.specs.Values.{as_time}
 use Rattle.store_spec.specs.Layout.{entries, position_of, lookup}
 use Rattle.store_spec.specs.Store.{records_of, store_in_order}
 use Rattle.store_spec.specs.Entry.{record_at, laid_out}
 use Rattle.store_spec.proofs.Found.{FoundEntry, found_none, found_entry, found_record}
+use Rattle.store_time.specs.Answers.{as_time_answer}
 use Rattle.store_time.specs.Times.{entry_time, creation_time, time_checks, ask_time}
+
+-- the answer of a time that a record has, or of none
+pub given_time : (o : code.Option ℕ) → as_time_answer (Ok o) ≡ answered (as_time o)
+unfolding as_time_answer as_time
+given_time (Some x) = refl
+given_time None = refl
 
 module _ (c : Committee) (s : Bytes) (r : BlockReference) where
   pub time_broken : broken c ≡ true → refused 5 ≡ ask_time c s r

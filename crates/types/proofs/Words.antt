@@ -18,8 +18,8 @@ use Rattle.base.proofs.Tests.{fails}
 use Rattle.record_spec.proofs.References.{reference_same, reference_irrefl, reference_other}
 use Rattle.types.specs.declared.BlockDigest as digest
 use Rattle.types.specs.declared.BlockReference as declared
-use Rattle.types.specs.declared.Ordering.{Ordering}
-use Rattle.types.specs.declared.Ordering.TheVariants.{Less, Equal, Greater}
+use Rattle.std.specs.declared.cmp.Ordering.{Ordering}
+use Rattle.std.specs.declared.cmp.Ordering.TheVariants.{Less, Equal, Greater}
 
 pub word_same : (v w : ℕ) → v ≡ w → word_order v w ≡ Equal
 unfolding word_order order_of

@@ -1,5 +1,7 @@
 -- What the code's values mean: for each declared type its one conversion. Assumes nothing: these are definitions.
-use Rattle.std.specs.Prelude.{ℕ, Bool, List, ◌++◌, reverse, eqb, ltb}
+use Rattle.std.specs.Prelude.{ℕ, Bool, List, ◌++◌, reverse, eqb, ltb, Some, None}
+use Rattle.std.specs.declared.option.Option as code
+use Rattle.std.proofs.Math.Option.{Option, none, some}
 use Rattle.base.specs.Lists.{pick, same, before}
 use Rattle.base.specs.Le.{Bytes, le_bytes}
 use Rattle.record_spec.specs.Reference.{BlockReference, TransactionLocator, TransactionLocatorRange, locator, new_range, same_reference, reference_before}
@@ -8,8 +10,8 @@ use Rattle.types.specs.declared.BlockDigest as digest
 use Rattle.types.specs.declared.BlockReference as reference
 use Rattle.types.specs.declared.TransactionLocator as locators
 use Rattle.types.specs.declared.TransactionLocatorRange as ranges
-use Rattle.types.specs.declared.Ordering.{Ordering}
-use Rattle.types.specs.declared.Ordering.TheVariants.{Less, Equal, Greater}
+use Rattle.std.specs.declared.cmp.Ordering.{Ordering}
+use Rattle.std.specs.declared.cmp.Ordering.TheVariants.{Less, Equal, Greater}
 
 -- the n bytes of a number, highest first
 unfoldable pub be_bytes : ℕ → ℕ → Bytes
@@ -24,6 +26,11 @@ as_reference r = record { authority = r.authority.0; round = r.round.0; digest =
 
 unfoldable pub as_locator : locators.TransactionLocator → TransactionLocator
 as_locator l = locator (as_reference l.block) l.offset
+
+-- a locator, or none: where a list goes on, or what it has next
+unfoldable pub as_maybe : code.Option locators.TransactionLocator → Option TransactionLocator
+as_maybe (Some l) = some (as_locator l)
+as_maybe None = none
 
 unfoldable pub as_range : ranges.TransactionLocatorRange → TransactionLocatorRange
 as_range r = new_range (as_reference r.block) r.offset_start_inclusive r.offset_end_exclusive

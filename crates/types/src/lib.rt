@@ -6,6 +6,7 @@ ghost use Rattle.record_spec.specs.Reference.{new_range, one_range, locator_befo
 ghost use Rattle.types.specs.Values.{digest_bytes, as_reference, as_locator, as_range, word_order, key_order, reference_order, locator_order};
 
 use committee::{AuthorityIndex, RoundNumber};
+use std::cmp::Ordering;
 
 // The bytes of a reference, and of a locator.
 pub const REFERENCE_BYTES: usize = 48;
@@ -40,13 +41,6 @@ pub struct TransactionLocatorRange {
     pub block: BlockReference,
     pub offset_start_inclusive: u64,
     pub offset_end_exclusive: u64,
-}
-
-#[derive(Clone, Copy)]
-pub enum Ordering {
-    Less,
-    Equal,
-    Greater,
 }
 
 impl TransactionLocatorRange {

@@ -36,10 +36,8 @@ pub fn word_at(s: &[u8], at: usize) -> u64
 pub fn words_of(bytes: &[u8], words: &mut [u64])
     ensures { words.new ≡ words_in (length words.old) bytes.now }
 {
-    let mut i = 0;
-    while i < words.len() {
+    for i in 0..words.len() {
         words[i] = word_at(bytes, 8 * i);
-        i += 1;
     }
 }
 
@@ -48,9 +46,7 @@ pub fn bytes_of(words: &[u64], bytes: &mut [u8])
     requires { length bytes.old ≡ 8 * length words.now }
     ensures { bytes.new ≡ bytes_of words.now }
 {
-    let mut i = 0;
-    while i < words.len() {
+    for i in 0..words.len() {
         base::write_u64(bytes, 8 * i, words[i]);
-        i += 1;
     }
 }

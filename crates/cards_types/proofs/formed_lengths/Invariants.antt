@@ -4,6 +4,3 @@ use Rattle.cards_types.proofs.formed_lengths.Given as goal
 
 abbrev pub invariant-loop-n : goal.invariant-loop-n
 invariant-loop-n l = (l.n ≤ length l.rec) × (l.formed ≤ l.n)
-
-abbrev pub decreases-loop-n : goal.decreases-loop-n
-decreases-loop-n l = length l.rec - l.n

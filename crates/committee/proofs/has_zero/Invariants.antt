@@ -5,8 +5,5 @@ use lib.ListN.{length, drop}
 use Rattle.base.specs.Lists.{any_of}
 use Rattle.committee.proofs.has_zero.Given as goal
 
-abbrev pub invariant-loop-i : goal.invariant-loop-i
-invariant-loop-i l = (l.i ≤ length l.stakes) × (any_of (λ s. eqb s 0) l.stakes ≡ any_of (λ s. eqb s 0) (drop l.i l.stakes))
-
-abbrev pub decreases-loop-i : goal.decreases-loop-i
-decreases-loop-i l = length l.stakes - l.i
+abbrev pub invariant-loop-stake : goal.invariant-loop-stake
+invariant-loop-stake l = (l.stake-index ≤ length l.stakes) × (any_of (λ s. eqb s 0) l.stakes ≡ any_of (λ s. eqb s 0) (drop l.stake-index l.stakes))

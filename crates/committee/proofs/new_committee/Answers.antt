@@ -1,4 +1,3 @@
-use Rattle.committee.specs.declared.NewCommittee.TheVariants.{Taken, Broken}
 use Rattle.committee.specs.Answers.{stake_value, as_new_committee, total_found}
 use Rattle.committee.specs.Committee.{Stake, total_stake, committee_checks, new_committee}
 use Rattle.base.specs.Checks.{◌⇒◌, refusal, passes, checked}
@@ -10,6 +9,8 @@ use mathlib.Core.List.{[], ◌∷◌}
 use mathlib.Core.Bool.{Bool, true, false}
 use mathlib.Core.Path.{◌≡◌, refl, sym, ◌∙◌}
 use Rattle.committee.proofs.new_committee.Goals as goal
+use Rattle.std.specs.Prelude.{Err, Ok}
+use Rattle.base.specs.declared.refusal.Refusal.TheVariants.{TotalTooLarge}
 
 pub returns-then-stakes-eq0 : goal.returns-then-stakes-eq0
 unfolding as_new_committee new_committee committee_checks checked passes refusal all_of
@@ -46,7 +47,7 @@ returns c =
     )
     (either (ltb 9223372036854775807 (total_stake l)) (total_stake l))
   where
-    either : (t : Bool) (s : Stake) → as_new_committee (pick t (Broken 4) (Taken (stake_value s))) ≡ checked
+    either : (t : Bool) (s : Stake) → as_new_committee (pick t (Err TotalTooLarge) (Ok (stake_value s))) ≡ checked
         ((false ⇒ 1) ∷ (false ⇒ 2) ∷ (false ⇒ 3) ∷ (t ⇒ 4) ∷ []) s
     either true s = refl
     either false s = refl

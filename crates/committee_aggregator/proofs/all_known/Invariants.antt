@@ -7,6 +7,3 @@ use Rattle.committee_aggregator.proofs.all_known.Given as goal
 
 abbrev pub invariant-loop-i : goal.invariant-loop-i
 invariant-loop-i l = (length l.stakes ≤ l.i) × ((a : ℕ) → length l.stakes ≤ a → a < l.i → member l.votes a ≡ false)
-
-abbrev pub decreases-loop-i : goal.decreases-loop-i
-decreases-loop-i l = 128 - l.i

@@ -6,6 +6,3 @@ use Rattle.committee_set.proofs.stake_of.Given as goal
 
 abbrev pub invariant-loop-i : goal.invariant-loop-i
 invariant-loop-i l = (l.i ≤ length l.stakes) × (l.stake + stake_from l.i (drop l.i l.stakes) l.votes ≡ stake_of l.stakes l.votes)
-
-abbrev pub decreases-loop-i : goal.decreases-loop-i
-decreases-loop-i l = length l.stakes - l.i

@@ -6,39 +6,34 @@ use Rattle.record_spec.specs.Reference.{locator}
 use Rattle.types.specs.Values.{as_locator}
 use Rattle.record_statement.specs.Values.{as_statement}
 use Rattle.record_statement.specs.declared.BaseStatement.TheVariants.{Accept}
-use Rattle.record_statement.specs.declared.Taken.TheVariants.{Statement, Malformed}
+use Rattle.std.specs.Prelude.{Some}
 use Rattle.draft_joined.specs.Step.{TookGiven, TookJoined}
 use Rattle.draft_joined.proofs.Given.{inside_none}
 use Rattle.draft_joined.proofs.Runs.{joined_none, joined_there, joined_accept, no_accept}
-use borrow.Author.Rules.{rules}
 use Rattle.draft_joined.proofs.next_joined.Goals as goal
 
-pub returns-in_default : goal.returns-in_default
+pub returns-in_err-statement : goal.returns-in_err-statement
 unfolding TookGiven TookJoined
+returns-in_err-statement c = rw c.from_residual.ensures (joined_none c.args.s.now c.args.at c.requires c.in_err-statement.ensures)
+
+pub returns-in_default : goal.returns-in_default
 returns-in_default c =
     let o = c in
     let s = o.args.s.now in
-    let told : TookGiven s o.args.at Malformed = rw c.in_default.is at c.take_given.ensures in
-    joined_none s o.args.at o.requires told
-
-pub returns-in_default-statement : goal.returns-in_default-statement
-returns-in_default-statement c =
-    let o = c in
-    let s = o.args.s.now in
-    let st = c.in-Statement.statement in
-    let next = c.in-Statement.next in
-    let told : TookGiven s o.args.at (Statement st next) = rw c.in-Statement.is at c.take_given.ensures in
+    let st = c.in_ok-statement.statement in
+    let next = c.in_ok-statement.next in
+    let told : TookGiven s o.args.at (Some (st, next)) = c.in_ok-statement.ensures in
     joined_there s o.args.at st next (bytes_of s (λ j h. omega (arith, c.shared_slice_known-1.given j))) told
-    (no_accept s st c.in_default-statement.not-Accept)
+    (no_accept s st c.in_default.not-Accept)
 
 pub run_of-run-requires : goal.run_of-run-requires
 unfolding TookGiven
 run_of-run-requires c =
     let o = c in
     let s = o.args.s.now in
-    let st = c.in-Statement.statement in
-    let next = c.in-Statement.next in
-    let told : TookGiven s o.args.at (Statement st next) = rw c.in-Statement.is at c.take_given.ensures in
+    let st = c.in_ok-statement.statement in
+    let next = c.in_ok-statement.next in
+    let told : TookGiven s o.args.at (Some (st, next)) = c.in_ok-statement.ensures in
     told.1.1.0
 
 pub run_statement-requires : goal.run_statement-requires
@@ -50,12 +45,10 @@ unfolding TookGiven TookJoined as_statement as_locator locator
 returns c =
     let o = c in
     let s = o.args.s.now in
-    let st = c.in-Statement.statement in
-    let next = c.in-Statement.next in
+    let st = c.in_ok-statement.statement in
+    let next = c.in_ok-statement.next in
     let first = c.in-Accept.first in
-    let told : TookGiven s o.args.at (Statement (Accept first) next) = rw
-    (c.in-Statement.is, c.in-Accept.is) at
-    c.take_given.ensures in
+    let told : TookGiven s o.args.at (Some (Accept first, next)) = rw c.in-Accept.is at c.in_ok-statement.ensures in
     let r = c.run_of-run.ensures in (
       joined_accept s o.args.at (bytes_of s (λ j h. omega (
         arith,

@@ -1,14 +1,13 @@
 use mathlib.Core.Path.{◌≡◌, refl, sym, ◌∙◌}
 use mathlib.Core.Bool.{true, false}
-use Prim.Native.Nat.{◌+◌, ◌-◌}
+use Prim.Native.Nat.{◌+◌}
 use native.Mathlib.Omega.{arith}
-use borrow.Author.Rules.{rules}
 use Rattle.base.proofs.Le.{bytes_of}
 use Rattle.record_spec.specs.Reference.{locator, new_range, one_range}
 use Rattle.types.specs.Values.{as_reference, as_locator}
 use Rattle.draft_spec.specs.Joining.{touches}
 use Rattle.draft_joined.specs.Step.{TookAccept}
-use Rattle.draft_joined.specs.declared.NextAccept.TheVariants.{At, Other}
+use Rattle.std.specs.Prelude.{Some, None}
 use Rattle.draft_joined.proofs.Runs.{alone_right, longer_right, goes_on_lem, stays_apart}
 use Rattle.draft_joined.proofs.run_of.Goals as goal
 
@@ -26,7 +25,7 @@ returns-in_default c =
     let l = c.loop-other in
     let s = o.args.s.now in
     let first = o.args.first in
-    let told : TookAccept s l.at Other = rw c.in_default.is at c.next_accept.ensures in
+    let told : TookAccept s l.at None = rw c.in_default.is at c.next_accept.ensures in
     record {
       onward = l.invariant.0;
       inside = l.invariant.1.0;
@@ -42,9 +41,9 @@ returns-then-not-goes_on c =
     let l = c.loop-other in
     let s = o.args.s.now in
     let first = o.args.first in
-    let other = c.in-At.other in
-    let next = c.in-At.next in
-    let told : TookAccept s l.at (At other next) = rw c.in-At.is at
+    let other = c.in-Some.other in
+    let next = c.in-Some.next in
+    let told : TookAccept s l.at (Some (other, next)) = rw c.in-Some.is at
     c.next_accept.ensures in
     let r = new_range (as_reference first.block) first.offset (l.last + 1) in
     let apart : touches r (one_range (as_locator other)) ≡ false = sym c.goes_on.ensures ∙ c.if-not-goes_on.true in
@@ -63,9 +62,9 @@ loop-other-smaller c =
     let o = c in
     let l = c.loop-other in
     let s = o.args.s.now in
-    let other = c.in-At.other in
-    let next = c.in-At.next in
-    let told : TookAccept s l.at (At other next) = rw c.in-At.is at
+    let other = c.in-Some.other in
+    let next = c.in-Some.next in
+    let told : TookAccept s l.at (Some (other, next)) = rw c.in-Some.is at
     c.next_accept.ensures in
     omega (arith, told.1.0, told.1.1)
 
@@ -76,9 +75,9 @@ loop-other-preserved c =
     let l = c.loop-other in
     let s = o.args.s.now in
     let first = o.args.first in
-    let other = c.in-At.other in
-    let next = c.in-At.next in
-    let told : TookAccept s l.at (At other next) = rw c.in-At.is at
+    let other = c.in-Some.other in
+    let next = c.in-Some.next in
+    let told : TookAccept s l.at (Some (other, next)) = rw c.in-Some.is at
     c.next_accept.ensures in
     let r = new_range (as_reference first.block) first.offset (l.last + 1) in
     let near : touches r (one_range (as_locator other)) ≡ true = sym c.goes_on.ensures ∙ c.if-not-goes_on.false in (

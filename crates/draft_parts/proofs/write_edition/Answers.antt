@@ -5,10 +5,10 @@ use lib.ListN.{length, length-set}
 use Rattle.base.proofs.Le.{length_le_bytes}
 use Rattle.record_spec.specs.Record.{time_bytes}
 use Rattle.record_reader.specs.Values.{as_time}
-use Rattle.record_reader.specs.declared.CreationTime.{CreationTime}
 use Rattle.draft_parts.proofs.PartsWritten.{old_written, time_written}
-use borrow.Author.Rules.{rules}
 use Rattle.draft_parts.proofs.write_edition.Goals as goal
+use Rattle.std.specs.Prelude.{Option}
+use Rattle.std.specs.Prelude.{ℕ}
 
 pub bounds-out-54 : goal.bounds-out-54
 bounds-out-54 c = simp length-set (omega arith)
@@ -34,7 +34,7 @@ write_u64-requires c =
       arith,
       c.requires,
       ap
-          (λ (x : CreationTime). length (time_bytes (as_time x))) c.in-Given.is ∙ length_le_bytes 16 c.in-Given.nanoseconds,
+          (λ (x : Option ℕ). length (time_bytes (as_time x))) c.in-Some.is ∙ length_le_bytes 16 c.in-Some.nanoseconds,
     ) in
     simp length-set (omega (arith, long))
 
@@ -46,8 +46,8 @@ write_u64-requires-2 c =
       arith,
       c.requires,
       ap
-          (λ (x : CreationTime). length (time_bytes (as_time x))) c.in-Given.is ∙ length_le_bytes 16
-          c.in-Given.nanoseconds,
+          (λ (x : Option ℕ). length (time_bytes (as_time x))) c.in-Some.is ∙ length_le_bytes 16
+          c.in-Some.nanoseconds,
     ) in
     let kept : length c.write_u64.new.s ≡ length a.out.now = c.write_u64.auto.s ∙ simp length-set
     in
@@ -60,8 +60,8 @@ pub returns : goal.returns
 unfolding as_time
 returns c =
     let a = c.args in
-    let x = c.in-Given.nanoseconds in
+    let x = c.in-Some.nanoseconds in
     c.write_u64-2.ensures ∙ rw (
       c.write_u64.ensures,
-      c.in-Given.is,
+      c.in-Some.is,
     ) (time_written a.out.now x (omega arith))

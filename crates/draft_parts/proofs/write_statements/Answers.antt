@@ -1,53 +1,17 @@
 use mathlib.Core.Path.{◌≡◌, refl, sym, ◌∙◌}
 use mathlib.Core.Bool.{true}
-use Prim.Native.Nat.{◌-◌}
 use native.Mathlib.Omega.{arith}
 use lib.ListN.{length, length-append}
-use borrow.Author.Rules.{rules}
 use Rattle.base.proofs.Tests.{not_both}
 use Rattle.base.proofs.Le.{sets_append}
 use Rattle.record_spec.specs.Record.{statement_bytes}
 use Rattle.record_statement.specs.Values.{as_statement}
-use Rattle.record_statement.specs.declared.Taken.TheVariants.{Statement, Malformed}
+use Rattle.std.specs.Prelude.{Some, None}
 use Rattle.draft_joined.specs.Step.{joined_from, followed, TookJoined}
 use Rattle.draft_statements.proofs.Written.{length_written, size_bytes, size_long}
 use Rattle.draft_size.specs.Step.{bytes_in, writable}
 use Rattle.draft_size.proofs.Measuring.{joined_done, writes_short, writes_others, writes_first, writes_none, writes_done}
 use Rattle.draft_parts.proofs.write_statements.Goals as goal
-
--- src/lib.rt:109:5
-
--- src/lib.rt:110:49
-
--- src/lib.rt:110:30
-
--- src/lib.rt:112:13
-
--- src/lib.rt:112:13
-
--- src/lib.rt:112:13
-
--- src/lib.rt:114:33
-
--- src/lib.rt:114:25
-
--- src/lib.rt:116:13
-
--- src/lib.rt:116:13
-
--- src/lib.rt:116:13
-
--- src/lib.rt:118:9
-
--- src/lib.rt:119:14
-
--- src/lib.rt:109:5
-
--- src/lib.rt:109:5
-
--- src/lib.rt:103:1
-
--- src/lib.rt:103:1
 
 pub loop-at-init : goal.loop-at-init
 loop-at-init c = (omega arith, (c.requires.0, (c.requires.1, (refl, refl))))
@@ -63,7 +27,7 @@ unfolding TookJoined
 returns-in_default c =
     let l = c.loop-at in
     let s = c.args.s.now in
-    let told : TookJoined s l.at Malformed = rw c.in_default.is at c.next_joined.ensures in
+    let told : TookJoined s l.at None = rw c.in_default.is at c.next_joined.ensures in
     absurd (writes_none (rw told at l.invariant.1.0))
 
 pub shape_of-out-in_default-statement_size : goal.shape_of-out-in_default-statement_size
@@ -75,9 +39,9 @@ returns-in_default-statement_size c =
     let l = c.loop-at in
     let a = c.args in
     let s = a.s.now in
-    let st = c.in-Statement.statement in
-    let next = c.in-Statement.next in
-    let told : TookJoined s l.at (Statement st next) = rw c.in-Statement.is at
+    let st = c.in-Some.statement in
+    let next = c.in-Some.next in
+    let told : TookJoined s l.at (Some (st, next)) = rw c.in-Some.is at
     c.next_joined.ensures in
     let w = as_statement s st in
     let fits : writable (followed w (joined_from s next)) ≡ true = rw told.0 at l.invariant.1.0 in
@@ -90,9 +54,9 @@ write_statement-requires c =
     let l = c.loop-at in
     let a = c.args in
     let s = a.s.now in
-    let st = c.in-Statement.statement in
-    let next = c.in-Statement.next in
-    let told : TookJoined s l.at (Statement st next) = rw c.in-Statement.is at
+    let st = c.in-Some.statement in
+    let next = c.in-Some.next in
+    let told : TookJoined s l.at (Some (st, next)) = rw c.in-Some.is at
     c.next_joined.ensures in
     let w = as_statement s st in
     let fits : writable (followed w (joined_from s next)) ≡ true = rw told.0 at l.invariant.1.0 in
@@ -105,14 +69,14 @@ overflow_add-to c =
     let l = c.loop-at in
     let a = c.args in
     let s = a.s.now in
-    let st = c.in-Statement.statement in
-    let next = c.in-Statement.next in
-    let told : TookJoined s l.at (Statement st next) = rw c.in-Statement.is
+    let st = c.in-Some.statement in
+    let next = c.in-Some.next in
+    let told : TookJoined s l.at (Some (st, next)) = rw c.in-Some.is
     at c.next_joined.ensures in
     let w = as_statement s st in
     let fits : writable (followed w (joined_from s next)) ≡ true = rw told.0 at l.invariant.1.0 in
-    let n = c.in-Bytes.size in
-    let size = size_bytes s st n told.1.1.1 (sym c.statement_size.ensures ∙ c.in-Bytes.is) in
+    let n = c.in-Some-statement_size.size in
+    let size = size_bytes s st n told.1.1.1 (sym c.statement_size.ensures ∙ c.in-Some-statement_size.is) in
     let room = rw (told.0, writes_first w (joined_from s next) fits) at l.invariant.1.1.0 in
     omega (arith, room, length-append (statement_bytes w) (bytes_in (joined_from s next)), size.1.0, length_written s st told.1.1.1)
 
@@ -122,9 +86,9 @@ loop-at-smaller c =
     let l = c.loop-at in
     let a = c.args in
     let s = a.s.now in
-    let st = c.in-Statement.statement in
-    let next = c.in-Statement.next in
-    let told : TookJoined s l.at (Statement st next) = rw c.in-Statement.is
+    let st = c.in-Some.statement in
+    let next = c.in-Some.next in
+    let told : TookJoined s l.at (Some (st, next)) = rw c.in-Some.is
     at c.next_joined.ensures in
     let w = as_statement s st in
     let fits : writable (followed w (joined_from s next)) ≡ true = rw told.0 at l.invariant.1.0 in
@@ -136,14 +100,14 @@ loop-at-preserved c =
     let l = c.loop-at in
     let a = c.args in
     let s = a.s.now in
-    let st = c.in-Statement.statement in
-    let next = c.in-Statement.next in
-    let told : TookJoined s l.at (Statement st next) = rw c.in-Statement.is
+    let st = c.in-Some.statement in
+    let next = c.in-Some.next in
+    let told : TookJoined s l.at (Some (st, next)) = rw c.in-Some.is
     at c.next_joined.ensures in
     let w = as_statement s st in
     let fits : writable (followed w (joined_from s next)) ≡ true = rw told.0 at l.invariant.1.0 in
-    let n = c.in-Bytes.size in
-    let size = size_bytes s st n told.1.1.1 (sym c.statement_size.ensures ∙ c.in-Bytes.is) in
+    let n = c.in-Some-statement_size.size in
+    let size = size_bytes s st n told.1.1.1 (sym c.statement_size.ensures ∙ c.in-Some-statement_size.is) in
     let long : length (statement_bytes w) ≡ n = length_written s st told.1.1.1 ∙ sym size.1.0 in
     let room = rw (told.0, writes_first w (joined_from s next) fits) at l.invariant.1.1.0 in
     let kept : length c.write_statement.new.out ≡ length l.out = c.write_statement.auto.out in (

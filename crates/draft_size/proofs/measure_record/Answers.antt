@@ -8,28 +8,6 @@ use Rattle.draft_size.proofs.Sizing.{sized_digest, sized_mark, sized_cut, sized_
 use borrow.Author.Rules.{rules}
 use Rattle.draft_size.proofs.measure_record.Goals as goal
 
--- src/lib.rt:61:9
-
--- src/lib.rt:64:9
-
--- src/lib.rt:67:9
-
--- src/lib.rt:70:9
-
--- src/lib.rt:72:40
-
--- src/lib.rt:72:24
-
--- src/lib.rt:73:9
-
--- src/lib.rt:73:9
-
--- src/lib.rt:75:27
-
--- src/lib.rt:75:27
-
--- src/lib.rt:57:1
-
 pub returns-then-digest-ne32 : goal.returns-then-digest-ne32
 unfolding requested
 returns-then-digest-ne32 c =
@@ -63,18 +41,18 @@ returns-then-includes-gt-MAX_INCLUDES c =
     sym (sized_includes q (bytes_of a.includes.now (λ j h. omega (arith, c.shared_slice_known-2-1.given j)))
     c.if-includes-gt-MAX_INCLUDES.true)
 
-pub returns-in_default : goal.returns-in_default
+pub returns-in_err-count : goal.returns-in_err-count
 unfolding requested
-returns-in_default c =
+returns-in_err-count c =
     let a = c.args in
     λ author round.
     let q = requested author round a.digest.now a.mark a.includes.now a.statements.now in
-    sym (sized_statements q (sym c.measure.ensures.value ∙ c.in_default.is))
+    rw c.from_residual.ensures (sym (sized_statements q (sym c.measure.ensures.value ∙ c.in_err-count.was)))
 
 pub overflow_add-result-2 : goal.overflow_add-result-2
 unfolding low
 overflow_add-result-2 c =
-    let few = leb-true c.in-Fits.bytes 67110912 (rw c.in-Fits.is at c.measure.ensures.result_value) in
+    let few = leb-true c.in_ok-count.bytes 67110912 (rw c.in_ok-count.was at c.measure.ensures.result_value) in
     omega (arith, few, c.if-includes-gt-MAX_INCLUDES.false)
 
 pub returns : goal.returns
@@ -84,7 +62,7 @@ returns c =
     λ author round.
     let q = requested author round a.digest.now a.mark a.includes.now a.statements.now in
     sym (sized_fits q (bytes_of a.includes.now (λ j h. omega
-    (arith, c.shared_slice_known-2-1.given j))) c.in-Fits.count
-    c.in-Fits.bytes c.if-digest-ne32.false
+    (arith, c.shared_slice_known-2-1.given j))) c.in_ok-count.count
+    c.in_ok-count.bytes c.if-digest-ne32.false
     (omega (arith, c.if-mark-gt1.false)) c.if-includes-ne0.false
-    (omega (arith, c.if-includes-gt-MAX_INCLUDES.false)) (sym c.measure.ensures.value ∙ c.in-Fits.is))
+    (omega (arith, c.if-includes-gt-MAX_INCLUDES.false)) (sym c.measure.ensures.value ∙ c.in_ok-count.was))

@@ -15,9 +15,6 @@ use Rattle.draft_writer.proofs.Recorded.{record-written, refuses_form, refuses_s
 use borrow.Author.Rules.{rules}
 use Rattle.draft_writer.proofs.write_in.Goals as goal
 
-pub enum_told-1 : goal.enum_told-1
-enum_told-1 c = search rules
-
 pub returns-in_default : goal.returns-in_default
 unfolding as_write_answer
 returns-in_default c =
@@ -31,15 +28,15 @@ unfolding as_write_answer requested
 returns-then-out-bytes c =
     let a = c.args in
     let q = requested a.author.0 a.round.0 a.digest.now a.mark a.includes.now a.statements.now in
-    let count = c.in-Fits.count in
-    let bytes = c.in-Fits.bytes in
+    let count = c.in-Some.count in
+    let bytes = c.in-Some.bytes in
     let all = bytes_of a.includes.now (λ j h. omega (
       arith,
       c.shared_slice_known-2-1.given
           j,
     )) in
     let plan : Plan q count bytes = planned q all count bytes (sym
-    (c.measure_record.ensures a.author.0 a.round.0) ∙ c.in-Fits.is) in
+    (c.measure_record.ensures a.author.0 a.round.0) ∙ c.in-Some.is) in
     let e = refuses_short (as_time a.time) q a.out.now count bytes plan (omega (arith, c.if-out-bytes.true)) in
     record { result_value = sym (ap (λ (w : Written). w.answer) e); out_after = sym (ap (λ (w : Written). w.out) e) }
 
@@ -48,14 +45,14 @@ unfolding as_write_answer requested
 returns-then-out-bytes-2 c =
     let a = c.args in
     let q = requested a.author.0 a.round.0 a.digest.now a.mark a.includes.now a.statements.now in
-    let count = c.in-Fits.count in
-    let bytes = c.in-Fits.bytes in
+    let count = c.in-Some.count in
+    let bytes = c.in-Some.bytes in
     let all = bytes_of a.includes.now (λ j h. omega (
       arith,
       c.shared_slice_known-2-1.given j,
     )) in
     let plan : Plan q count bytes = planned q all count bytes (sym
-    (c.measure_record.ensures a.author.0 a.round.0) ∙ c.in-Fits.is) in
+    (c.measure_record.ensures a.author.0 a.round.0) ∙ c.in-Some.is) in
     let e = refuses_short (as_time a.time) q a.out.now count bytes plan
     (omega (arith, c.if-out-bytes-2.true, c.if-out-bytes.false, c.time_size-extra.ensures)) in
     record { result_value = sym (ap (λ (w : Written). w.answer) e); out_after = sym (ap (λ (w : Written). w.out) e) }
@@ -65,14 +62,14 @@ unfolding requested
 write_front-requires c =
     let a = c.args in
     let q = requested a.author.0 a.round.0 a.digest.now a.mark a.includes.now a.statements.now in
-    let count = c.in-Fits.count in
-    let bytes = c.in-Fits.bytes in
+    let count = c.in-Some.count in
+    let bytes = c.in-Some.bytes in
     let all = bytes_of a.includes.now (λ j h. omega (
       arith,
       c.shared_slice_known-2-1.given j,
     )) in
     let plan : Plan q count bytes = planned q all count bytes (sym
-    (c.measure_record.ensures a.author.0 a.round.0) ∙ c.in-Fits.is) in
+    (c.measure_record.ensures a.author.0 a.round.0) ∙ c.in-Some.is) in
     (plan.digest, omega (arith, plan.size, c.if-out-bytes.false))
 
 pub overflow_cast-mark : goal.overflow_cast-mark
@@ -80,14 +77,14 @@ unfolding requested
 overflow_cast-mark c =
     let a = c.args in
     let q = requested a.author.0 a.round.0 a.digest.now a.mark a.includes.now a.statements.now in
-    let count = c.in-Fits.count in
-    let bytes = c.in-Fits.bytes in
+    let count = c.in-Some.count in
+    let bytes = c.in-Some.bytes in
     let all = bytes_of a.includes.now (λ j h. omega (
       arith,
       c.shared_slice_known-2-1.given j,
     )) in
     let plan : Plan q count bytes = planned q all count bytes (sym
-    (c.measure_record.ensures a.author.0 a.round.0) ∙ c.in-Fits.is) in
+    (c.measure_record.ensures a.author.0 a.round.0) ∙ c.in-Some.is) in
     omega (arith, plan.mark)
 
 pub overflow_cast-includes : goal.overflow_cast-includes
@@ -95,14 +92,14 @@ unfolding requested
 overflow_cast-includes c =
     let a = c.args in
     let q = requested a.author.0 a.round.0 a.digest.now a.mark a.includes.now a.statements.now in
-    let count = c.in-Fits.count in
-    let bytes = c.in-Fits.bytes in
+    let count = c.in-Some.count in
+    let bytes = c.in-Some.bytes in
     let all = bytes_of a.includes.now (λ j h. omega (
       arith,
       c.shared_slice_known-2-1.given j,
     )) in
     let plan : Plan q count bytes = planned q all count bytes (sym
-    (c.measure_record.ensures a.author.0 a.round.0) ∙ c.in-Fits.is) in
+    (c.measure_record.ensures a.author.0 a.round.0) ∙ c.in-Some.is) in
     omega (arith, plan.includes)
 
 pub overflow_cast-count : goal.overflow_cast-count
@@ -110,14 +107,14 @@ unfolding requested
 overflow_cast-count c =
     let a = c.args in
     let q = requested a.author.0 a.round.0 a.digest.now a.mark a.includes.now a.statements.now in
-    let count = c.in-Fits.count in
-    let bytes = c.in-Fits.bytes in
+    let count = c.in-Some.count in
+    let bytes = c.in-Some.bytes in
     let all = bytes_of a.includes.now (λ j h. omega (
       arith,
       c.shared_slice_known-2-1.given j,
     )) in
     let plan : Plan q count bytes = planned q all count bytes (sym
-    (c.measure_record.ensures a.author.0 a.round.0) ∙ c.in-Fits.is) in
+    (c.measure_record.ensures a.author.0 a.round.0) ∙ c.in-Some.is) in
     omega (arith, plan.few)
 
 pub write_counts-requires : goal.write_counts-requires
@@ -125,14 +122,14 @@ unfolding requested
 write_counts-requires c =
     let a = c.args in
     let q = requested a.author.0 a.round.0 a.digest.now a.mark a.includes.now a.statements.now in
-    let count = c.in-Fits.count in
-    let bytes = c.in-Fits.bytes in
+    let count = c.in-Some.count in
+    let bytes = c.in-Some.bytes in
     let all = bytes_of a.includes.now (λ j h. omega (
       arith,
       c.shared_slice_known-2-1.given j,
     )) in
     let plan : Plan q count bytes = planned q all count bytes (sym
-    (c.measure_record.ensures a.author.0 a.round.0) ∙ c.in-Fits.is) in
+    (c.measure_record.ensures a.author.0 a.round.0) ∙ c.in-Some.is) in
     omega (arith, plan.size, c.if-out-bytes.false, c.write_front.auto.out)
 
 pub write_edition-requires : goal.write_edition-requires
@@ -140,15 +137,15 @@ unfolding requested
 write_edition-requires c =
     let a = c.args in
     let q = requested a.author.0 a.round.0 a.digest.now a.mark a.includes.now a.statements.now in
-    let count = c.in-Fits.count in
-    let bytes = c.in-Fits.bytes in
+    let count = c.in-Some.count in
+    let bytes = c.in-Some.bytes in
     let all = bytes_of a.includes.now (λ j h. omega (
       arith,
       c.shared_slice_known-2-1.given j,
     )) in
     let plan : Plan q count bytes = planned q all count bytes (sym
     (c.measure_record.ensures
-    a.author.0 a.round.0) ∙ c.in-Fits.is) in
+    a.author.0 a.round.0) ∙ c.in-Some.is) in
     omega (
       arith,
       plan.size,
@@ -164,14 +161,14 @@ unfolding requested
 overflow_add-extra c =
     let a = c.args in
     let q = requested a.author.0 a.round.0 a.digest.now a.mark a.includes.now a.statements.now in
-    let count = c.in-Fits.count in
-    let bytes = c.in-Fits.bytes in
+    let count = c.in-Some.count in
+    let bytes = c.in-Some.bytes in
     let all = bytes_of a.includes.now (λ j h. omega (
       arith,
       c.shared_slice_known-2-1.given j,
     )) in
     let plan : Plan q count bytes = planned q all count bytes (sym
-    (c.measure_record.ensures a.author.0 a.round.0) ∙ c.in-Fits.is) in
+    (c.measure_record.ensures a.author.0 a.round.0) ∙ c.in-Some.is) in
     omega (
       arith,
       plan.size,
@@ -185,14 +182,14 @@ unfolding requested
 copy_to-requires c =
     let a = c.args in
     let q = requested a.author.0 a.round.0 a.digest.now a.mark a.includes.now a.statements.now in
-    let count = c.in-Fits.count in
-    let bytes = c.in-Fits.bytes in
+    let count = c.in-Some.count in
+    let bytes = c.in-Some.bytes in
     let all = bytes_of a.includes.now (λ j h. omega (
       arith,
       c.shared_slice_known-2-1.given j,
     )) in
     let plan : Plan q count bytes = planned q all count bytes (sym
-    (c.measure_record.ensures a.author.0 a.round.0) ∙ c.in-Fits.is) in
+    (c.measure_record.ensures a.author.0 a.round.0) ∙ c.in-Some.is) in
     omega (
       arith,
       plan.size,
@@ -209,15 +206,15 @@ unfolding requested
 overflow_add-extra-2 c =
     let a = c.args in
     let q = requested a.author.0 a.round.0 a.digest.now a.mark a.includes.now a.statements.now in
-    let count = c.in-Fits.count in
-    let bytes = c.in-Fits.bytes in
+    let count = c.in-Some.count in
+    let bytes = c.in-Some.bytes in
     let all = bytes_of a.includes.now (λ j h. omega (
       arith,
       c.shared_slice_known-2-1.given
           j,
     )) in
     let plan : Plan q count bytes = planned q all count bytes (sym
-    (c.measure_record.ensures a.author.0 a.round.0) ∙ c.in-Fits.is) in
+    (c.measure_record.ensures a.author.0 a.round.0) ∙ c.in-Some.is) in
     omega (
       arith,
       plan.size,
@@ -231,15 +228,15 @@ unfolding requested
 overflow_add-extra-3 c =
     let a = c.args in
     let q = requested a.author.0 a.round.0 a.digest.now a.mark a.includes.now a.statements.now in
-    let count = c.in-Fits.count in
-    let bytes = c.in-Fits.bytes in
+    let count = c.in-Some.count in
+    let bytes = c.in-Some.bytes in
     let all = bytes_of a.includes.now (λ j h. omega (
       arith,
       c.shared_slice_known-2-1.given
           j,
     )) in
     let plan : Plan q count bytes = planned q all count bytes (sym
-    (c.measure_record.ensures a.author.0 a.round.0) ∙ c.in-Fits.is) in
+    (c.measure_record.ensures a.author.0 a.round.0) ∙ c.in-Some.is) in
     omega (
       arith,
       plan.size,
@@ -253,15 +250,15 @@ unfolding requested
 write_statements-requires c =
     let a = c.args in
     let q = requested a.author.0 a.round.0 a.digest.now a.mark a.includes.now a.statements.now in
-    let count = c.in-Fits.count in
-    let bytes = c.in-Fits.bytes in
+    let count = c.in-Some.count in
+    let bytes = c.in-Some.bytes in
     let all = bytes_of a.includes.now (λ j h. omega (
       arith,
       c.shared_slice_known-2-1.given
           j,
     )) in
     let plan : Plan q count bytes = planned q all count bytes (sym
-    (c.measure_record.ensures a.author.0 a.round.0) ∙ c.in-Fits.is) in (
+    (c.measure_record.ensures a.author.0 a.round.0) ∙ c.in-Some.is) in (
       plan.writes,
       omega (
         arith,
@@ -281,14 +278,14 @@ unfolding requested
 overflow_add-result c =
     let a = c.args in
     let q = requested a.author.0 a.round.0 a.digest.now a.mark a.includes.now a.statements.now in
-    let count = c.in-Fits.count in
-    let bytes = c.in-Fits.bytes in
+    let count = c.in-Some.count in
+    let bytes = c.in-Some.bytes in
     let all = bytes_of a.includes.now (λ j h. omega (
       arith,
       c.shared_slice_known-2-1.given j,
     )) in
     let plan : Plan q count bytes = planned q all count bytes (sym
-    (c.measure_record.ensures a.author.0 a.round.0) ∙ c.in-Fits.is) in
+    (c.measure_record.ensures a.author.0 a.round.0) ∙ c.in-Some.is) in
     omega (
       arith,
       plan.size,
@@ -302,14 +299,14 @@ unfolding as_write_answer requested
 returns c =
     let a = c.args in
     let q = requested a.author.0 a.round.0 a.digest.now a.mark a.includes.now a.statements.now in
-    let count = c.in-Fits.count in
-    let bytes = c.in-Fits.bytes in
+    let count = c.in-Some.count in
+    let bytes = c.in-Some.bytes in
     let all = bytes_of a.includes.now (λ j h. omega (
       arith,
       c.shared_slice_known-2-1.given j,
     )) in
     let plan : Plan q count bytes = planned q all count bytes (sym
-    (c.measure_record.ensures a.author.0 a.round.0) ∙ c.in-Fits.is) in
+    (c.measure_record.ensures a.author.0 a.round.0) ∙ c.in-Some.is) in
     let o = as_time a.time in
     let out = a.out.now in
     let extra = c.time_size-extra.ensures in

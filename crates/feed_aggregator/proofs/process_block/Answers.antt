@@ -50,7 +50,7 @@ count_votes-requires c =
     named_lent_checked_room_order (let o = c in
     let h = o.requires.lent in
     let p = c.read_u32-p.ensures ∙ sym (is_readable _ (laid_readable _ o.requires.lent.store)).used in
-    let total = (taken_sound _ _ c.in-Taken.ensures).1 in (
+    let total = (taken_sound _ _ c.in-Ok.ensures).1 in (
       process_voting _ _ _ _ h o.args.telling o.args.events.now _ _
           (c.if-not-register_shares.false)
           (rw p at c.register_shares.ensures) _ total,

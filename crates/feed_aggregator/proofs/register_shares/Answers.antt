@@ -17,8 +17,8 @@ reference-reference-requires c = c.requires.formed
 pub first_statement-cursor-requires : goal.first_statement-cursor-requires
 first_statement-cursor-requires c = c.requires.formed
 
-pub loop-start-init : goal.loop-start-init
-loop-start-init c =
+pub loop-run-init : goal.loop-run-init
+loop-run-init c =
     let o = c in
     let r = o.args.rec.now in
     let e = c.first_statement-cursor.ensures in
@@ -26,32 +26,31 @@ loop-start-init c =
     (rw z (adding_start _ _ _ _ _ o.requires.table.0 o.requires.table.1), placed r c.first_statement-cursor.result 0 e, omega (arith, z))
 
 pub next_shared_range-requires : goal.next_shared_range-requires
-next_shared_range-requires c = (c.requires.formed, (c.loop-start.invariant.1, c.loop-start.invariant.2))
+next_shared_range-requires c = (c.requires.formed, (c.loop-run.invariant.1, c.loop-run.invariant.2))
 
 pub shape_of-table-in_default : goal.shape_of-table-in_default
 shape_of-table-in_default c = let o = c in (adding_written _ _ _ _ _ o.requires.table.0
-    o.requires.table.1 _ _ c.loop-start.invariant.0).long
+    o.requires.table.1 _ _ c.loop-run.invariant.0).long
 
 pub returns-in_default : goal.returns-in_default
 returns-in_default c = let o = c in adding_end _ _ _ _ _ o.requires.table.0
-    o.requires.table.1 _ _ c.loop-start.invariant.0
+    o.requires.table.1 _ _ c.loop-run.invariant.0
     (c.next_shared_range.ensures.0 ∙ ap (runs_told _) c.in_default.is)
 
 pub item_count-requires : goal.item_count-requires
 item_count-requires c = let o = c in
-    (adding_written _ _ _ _ _ o.requires.table.0 o.requires.table.1 _ _ c.loop-start.invariant.0).holds.laid
+    (adding_written _ _ _ _ _ o.requires.table.0 o.requires.table.1 _ _ c.loop-run.invariant.0).holds.laid
 
 pub shape_of-table-then-room_of-item_count : goal.shape_of-table-then-room_of-item_count
 shape_of-table-then-room_of-item_count c = let o = c in
-    (adding_written _ _ _ _ _ o.requires.table.0 o.requires.table.1 _ _ c.loop-start.invariant.0
+    (adding_written _ _ _ _ _ o.requires.table.0 o.requires.table.1 _ _ c.loop-run.invariant.0
     ).long
 
 pub returns-then-room_of-item_count : goal.returns-then-room_of-item_count
 returns-then-room_of-item_count c =
     let o = c in
-    adding_stop _ _ _ _ _ o.requires.table.0 o.requires.table.1 _ _ c.loop-start.invariant.0 _
-    _ _ (c.next_shared_range.ensures.0 ∙ ap (runs_told _)
-    c.in-Run.is)
+    adding_stop _ _ _ _ _ o.requires.table.0 o.requires.table.1 _ _ c.loop-run.invariant.0 _ (c.next_shared_range.ensures.0 ∙ ap (runs_told _)
+    c.in-Some.is)
     (omega (arith, c.if-room_of-item_count.true, c.room_of.ensures, c.item_count.ensures)) _
 
 pub register-requires : goal.register-requires
@@ -62,30 +61,29 @@ register-requires c =
       broken = o.requires.committee.0;
       known = subst (λ (a : ℕ). known o.args.stakes.now a ≡ true) (sym who) o.requires.committee.1;
       holds = (adding_written _ _ _ _ _ o.requires.table.0 o.requires.table.1 _ _
-          c.loop-start.invariant.0).holds;
+          c.loop-run.invariant.0).holds;
       room = omega
           (arith, c.if-room_of-item_count.false, c.room_of.ensures, c.item_count.ensures);
     }
 
-pub loop-start-smaller : goal.loop-start-smaller
+pub loop-run-smaller : goal.loop-run-smaller
 unfolding FurtherOn
-loop-start-smaller c =
+loop-run-smaller c =
     let l = c in
-    let on = subst (FurtherOn _ _) c.in-Run.is
+    let on = subst (FurtherOn _ _) c.in-Some.is
     c.next_shared_range.ensures.1 in
     omega (arith, on.0, on.1.0)
 
-pub loop-start-preserved : goal.loop-start-preserved
+pub loop-run-preserved : goal.loop-run-preserved
 unfolding as_reference FurtherOn
-loop-start-preserved c =
+loop-run-preserved c =
     let o = c in
     let l = c in
     let who = ap (λ (z : BlockReference). z.authority) c.reference-reference.ensures in
-    let on = subst (FurtherOn _ _) c.in-Run.is
+    let on = subst (FurtherOn _ _) c.in-Some.is
     c.next_shared_range.ensures.1 in (
-      adding_on _ _ _ _ _ o.requires.table.0 o.requires.table.1 _ _ l.loop-start.invariant.0 _ _ _
-          (c.next_shared_range.ensures.0 ∙ ap (runs_told _)
-          c.in-Run.is)
+      adding_on _ _ _ _ _ o.requires.table.0 o.requires.table.1 _ _ l.loop-run.invariant.0 _ (c.next_shared_range.ensures.0 ∙ ap (runs_told _)
+          c.in-Some.is)
           (omega (
             arith,
             c.if-room_of-item_count.false,

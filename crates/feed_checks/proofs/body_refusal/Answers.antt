@@ -15,7 +15,7 @@ body_refusal-requires c =
     let m = c in
     let o = m in
     let k = o.args.stakes.now in
-    ((o.requires.0, o.requires.1), (taken_sound k c.in-Taken.total (rw c.in-Taken.is at m.new_committee.ensures)).1)
+    ((o.requires.0, o.requires.1), (taken_sound k c.in-Ok.total (rw c.in-Ok.is at m.new_committee.ensures)).1)
 
 pub returns : goal.returns
 returns c = c.body_refusal.ensures

@@ -23,7 +23,7 @@ unfolding as_voted counted_offsets as_range new_range
 vote-requires c =
     let o = c in
     let v = sym (c.voted_range.ensures o.args.rec.now) ∙ ap as_voted
-    c.in-Range.is in
+    c.in-Some.is in
     record { lent = o.requires.lent; room = rw v at o.requires.room; order = o.requires.order }
 
 pub returns : goal.returns
@@ -31,5 +31,5 @@ unfolding as_voted
 returns c =
     let o = c in
     let v = sym (c.voted_range.ensures o.args.rec.now) ∙ ap as_voted
-    c.in-Range.is in
+    c.in-Some.is in
     rw v c.vote.ensures

@@ -17,14 +17,14 @@ returns-in_default c =
 
 pub item_at-x-requires : goal.item_at-x-requires
 item_at-x-requires c = let t = c.requires.table in
-    (t.0.laid, index_found _ _ _ _ t.1 c.in-At.is)
+    (t.0.laid, index_found _ _ _ _ t.1 c.in-Some.is)
 
 pub returns-then-not-is_quorum : goal.returns-then-not-is_quorum
 unfolding as_item
 returns-then-not-is_quorum c =
     let o = c in
     let t = o.requires.table in
-    let e = at_some _ (holds_ordered _ t.0) _ _ _ t.1 _ c.in-At.is ∙ ap some
+    let e = at_some _ (holds_ordered _ t.0) _ _ _ t.1 _ c.in-Some.is ∙ ap some
     (sym c.item_at-x.ensures) in
     stated_none _ _ _ (between_silent _ _ _ _ _ _ _ _ t.2 (as_item c.item_at-x.result) e
     (sym c.is_quorum.ensures ∙ c.if-not-is_quorum.true))
@@ -34,7 +34,7 @@ unfolding as_item
 returns c =
     let o = c in
     let t = o.requires.table in
-    let e = at_some _ (holds_ordered _ t.0) _ _ _ t.1 _ c.in-At.is ∙
+    let e = at_some _ (holds_ordered _ t.0) _ _ _ t.1 _ c.in-Some.is ∙
     ap some (sym c.item_at-x.ensures) in
     stated_by _ _ _ _ _ _ _ _ _ (between_processed _ _ _ _ _ _ _ _ t.2
     (as_item c.item_at-x.result) e

@@ -22,7 +22,7 @@ overflow_mul-result c =
     let a = o.args in
     let m : Lent = lent_of a.store.now a.table.now a.work.now a.events.now in
     let f = c.feed_in_order-answer in
-    let e = sym (ap as_feed_answer c.in-Events.is) ∙ f.ensures.result_value in
+    let e = sym (ap as_feed_answer c.in-Ok.is) ∙ f.ensures.result_value in
     omega (arith, told_room a.stakes.now m a.rec.now _ e, ap length f.ensures.events_after, f.auto, o.well_formed)
 
 pub overflow_add-result : goal.overflow_add-result
@@ -32,25 +32,25 @@ overflow_add-result c =
     let a = o.args in
     let m : Lent = lent_of a.store.now a.table.now a.work.now a.events.now in
     let f = c.feed_in_order-answer in
-    let e = sym (ap as_feed_answer c.in-Refused.is) ∙ f.ensures.result_value in
-    omega (arith, feed_most a.stakes.now m a.rec.now _ (sym e))
+    let e = sym (ap as_feed_answer c.in-Err.is) ∙ f.ensures.result_value in
+    omega (arith, feed_most a.stakes.now m a.rec.now _ (sym e), c.number.ensures)
 
-pub returns-in-Events : goal.returns-in-Events
+pub returns-in-Ok : goal.returns-in-Ok
 unfolding as_feed_answer
-returns-in-Events c =
+returns-in-Ok c =
     let o = c in
     let a = o.args in
     let m : Lent = lent_of a.store.now a.table.now a.work.now a.events.now in
     let f = c.feed_in_order-answer in
-    let e = sym (ap as_feed_answer c.in-Events.is) ∙ f.ensures.result_value in
+    let e = sym (ap as_feed_answer c.in-Ok.is) ∙ f.ensures.result_value in
     rw (f.ensures.store_after, f.ensures.table_after, f.ensures.events_after) (told_accepted a.stakes.now m a.rec.now _ e)
 
-pub returns-in-Refused : goal.returns-in-Refused
+pub returns-in-Err : goal.returns-in-Err
 unfolding as_feed_answer
-returns-in-Refused c =
+returns-in-Err c =
     let o = c in
     let a = o.args in
     let m : Lent = lent_of a.store.now a.table.now a.work.now a.events.now in
     let f = c.feed_in_order-answer in
-    let e = sym (ap as_feed_answer c.in-Refused.is) ∙ f.ensures.result_value in
-    rw (f.ensures.store_after, f.ensures.table_after, f.ensures.events_after) (told_refused a.stakes.now m a.rec.now _ e)
+    let e = sym (ap as_feed_answer c.in-Err.is) ∙ f.ensures.result_value in
+    rw (c.number.ensures, f.ensures.store_after, f.ensures.table_after, f.ensures.events_after) (told_refused a.stakes.now m a.rec.now _ e)

@@ -9,6 +9,3 @@ use Rattle.feed_missed.proofs.missed_in.Given as goal
 abbrev pub invariant-loop-o : goal.invariant-loop-o
 invariant-loop-o l = Telling (λ q. pick (is_share_at (block_in l.rec) q) 2 3) l.statement l.start l.end l.n l.initial.events
     l.o l.k l.events × NotPast l.rec l.o l.cursor
-
-abbrev pub decreases-loop-o : goal.decreases-loop-o
-decreases-loop-o l = l.end - l.o

@@ -10,17 +10,17 @@ pub find_place-found-requires : goal.find_place-found-requires
 unfolding SortedStore
 find_place-found-requires c = let o = c.requires.0.1 in order_ascends _ o.laid _ o.places
 
-pub returns-in-At : goal.returns-in-At
+pub returns-in-Ok : goal.returns-in-Ok
 unfolding SortedStore block_at_place reference_in
-returns-in-At c =
+returns-in-Ok c =
     let o = c.requires.0.1 in
-    order_at _ o.laid _ o.places _ _ _ c.in-At.is c.find_place-found.ensures
+    order_at _ o.laid _ o.places _ _ _ c.in-Ok.is c.find_place-found.ensures
 
-pub returns-in-Before : goal.returns-in-Before
+pub returns-in-Err : goal.returns-in-Err
 unfolding SortedStore
-returns-in-Before c =
+returns-in-Err c =
     let start = c in
     let o = start.requires.0.1 in
     absurd
     (stored_somewhere (records_of start.args.store.now) (as_reference start.args.block) start.requires.1
-    (order_misses _ o.laid _ o.places _ _ _ c.in-Before.is c.find_place-found.ensures))
+    (order_misses _ o.laid _ o.places _ _ _ c.in-Err.is c.find_place-found.ensures))

@@ -59,16 +59,6 @@ read_u32-at-requires-in-loop-k c = let s = c.args.store.now in
     ) in
     rw l.invariant.there (omega (arith, (entry_room s _ (sorted_entry s c.requires.0 l.k n)).inside))
 
-pub overflow_add-k : goal.overflow_add-k
-unfolding block_count
-overflow_add-k c = let s = c.args.store.now in
-    omega (
-      arith,
-      c.loop-k-test.true,
-      (laid_out_lem s c.requires.0).reads.header.few,
-      c.read_u16-count.ensures,
-    )
-
 pub loop-k-preserved : goal.loop-k-preserved
 unfolding block_count
 loop-k-preserved c = let s = c.args.store.now in

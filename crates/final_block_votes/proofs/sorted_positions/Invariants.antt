@@ -4,6 +4,3 @@ use Rattle.final_block_votes.proofs.sorted_positions.Given as goal
 
 abbrev pub invariant-loop-k : goal.invariant-loop-k
 invariant-loop-k l = Walked l.store l.initial.order l.order l.at l.k
-
-abbrev pub decreases-loop-k : goal.decreases-loop-k
-decreases-loop-k l = l.count - l.k

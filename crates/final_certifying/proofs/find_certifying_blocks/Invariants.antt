@@ -13,6 +13,3 @@ invariant-loop-k l =
     RemembersBoth l.store l.order (as_locator l.locator) l.memo
     × Walked (certifies_in (as_reading l.reading) l.stakes (blocks_of l.store) (as_locator l.locator)) l.store l.order
     l.initial.positions l.positions l.authors l.blocks l.k
-
-abbrev pub decreases-loop-k : goal.decreases-loop-k
-decreases-loop-k l = length l.order - l.k

@@ -25,13 +25,13 @@ returns-in_default c = let a = c.args in
     record { result_value = ap (λ (x : Asked). x.answer) e; positions_after = ap (λ (x : Asked). x.positions) e }
 
 pub in_order-requires : goal.in_order-requires
-in_order-requires c = (taken_sound c.args.stakes.now c.in-Taken.total
-    (ap as_new_committee (sym c.in-Taken.is) ∙ c.new_committee.ensures)).0
+in_order-requires c = (taken_sound c.args.stakes.now c.in-Ok.total
+    (ap as_new_committee (sym c.in-Ok.is) ∙ c.new_committee.ensures)).0
 
 pub returns-then-not-in_order : goal.returns-then-not-in_order
 unfolding as_finality
 returns-then-not-in_order c = let a = c.args in
-    let t = taken_sound a.stakes.now c.in-Taken.total (ap as_new_committee (sym c.in-Taken.is) ∙ c.new_committee.ensures) in
+    let t = taken_sound a.stakes.now c.in-Ok.total (ap as_new_committee (sym c.in-Ok.is) ∙ c.new_committee.ensures) in
     let e = finality_disordered (as_reading a.reading) a.stakes.now a.store.now a.positions.now (as_locator a.locator) t.0
     (sym c.in_order.ensures ∙ c.if-not-in_order.true) in
     record { result_value = ap (λ (x : Asked). x.answer) e; positions_after = ap (λ (x : Asked). x.positions) e }
@@ -47,7 +47,7 @@ sorted_positions-count-requires c = (
 pub returns-then-positions-count : goal.returns-then-positions-count
 unfolding as_finality
 returns-then-positions-count c = let a = c.args in
-    let t = taken_sound a.stakes.now c.in-Taken.total (ap as_new_committee (sym c.in-Taken.is) ∙ c.new_committee.ensures) in
+    let t = taken_sound a.stakes.now c.in-Ok.total (ap as_new_committee (sym c.in-Ok.is) ∙ c.new_committee.ensures) in
     let e = finality_short (as_reading a.reading) a.stakes.now a.store.now a.positions.now (as_locator a.locator) t.0
     (sym c.in_order.ensures ∙ c.if-not-in_order.false)
     (omega (arith, c.if-positions-count.true, c.sorted_positions-count.ensures)) in
@@ -61,7 +61,7 @@ slice_bounds-certifying_blocks_in-end c = let a = c.args in
 
 pub certifying_blocks_in-found-requires : goal.certifying_blocks_in-found-requires
 certifying_blocks_in-found-requires c = let a = c.args in
-    let t = taken_sound a.stakes.now c.in-Taken.total (ap as_new_committee (sym c.in-Taken.is) ∙ c.new_committee.ensures) in
+    let t = taken_sound a.stakes.now c.in-Ok.total (ap as_new_committee (sym c.in-Ok.is) ∙ c.new_committee.ensures) in
     let o : store_in_order a.stakes.now a.store.now ≡ true = sym c.in_order.ensures ∙
     c.if-not-in_order.false in
     let q = c.sorted_positions-count.ensures in
@@ -71,17 +71,17 @@ certifying_blocks_in-found-requires c = let a = c.args in
     )
 
 pub stake_of-requires : goal.stake_of-requires
-stake_of-requires c = (taken_sound c.args.stakes.now c.in-Taken.total (ap as_new_committee (sym c.in-Taken.is) ∙ c.new_committee.ensures)).0
+stake_of-requires c = (taken_sound c.args.stakes.now c.in-Ok.total (ap as_new_committee (sym c.in-Ok.is) ∙ c.new_committee.ensures)).0
 
 pub returns-then-is_quorum : goal.returns-then-is_quorum
 unfolding as_finality
 returns-then-is_quorum c = let a = c.args in
     let l = as_locator a.locator in
-    let t = taken_sound a.stakes.now c.in-Taken.total (ap as_new_committee (sym c.in-Taken.is) ∙ c.new_committee.ensures) in
+    let t = taken_sound a.stakes.now c.in-Ok.total (ap as_new_committee (sym c.in-Ok.is) ∙ c.new_committee.ensures) in
     let q = c.certifying_blocks_in-found.ensures in
-    let f = final_in_by (as_reading a.reading) a.stakes.now a.store.now l c.in-Taken.total.0
+    let f = final_in_by (as_reading a.reading) a.stakes.now a.store.now l c.in-Ok.total.0
     c.certifying_blocks_in-found.result.authors t.1 q.authors_value in
-    let g : true ≡ quorum_of c.in-Taken.total.0 (stake_of a.stakes.now c.certifying_blocks_in-found.result.authors) = rw
+    let g : true ≡ quorum_of c.in-Ok.total.0 (stake_of a.stakes.now c.certifying_blocks_in-found.result.authors) = rw
     (← c.stake_of.ensures) (sym c.if-is_quorum.true ∙ c.is_quorum.ensures) in
     let e = finality_asked (as_reading a.reading) a.stakes.now a.store.now a.positions.now l t.0
     (sym c.in_order.ensures ∙ c.if-not-in_order.false)
@@ -96,11 +96,11 @@ pub returns : goal.returns
 unfolding as_finality
 returns c = let a = c.args in
     let l = as_locator a.locator in
-    let t = taken_sound a.stakes.now c.in-Taken.total (ap as_new_committee (sym c.in-Taken.is) ∙ c.new_committee.ensures) in
+    let t = taken_sound a.stakes.now c.in-Ok.total (ap as_new_committee (sym c.in-Ok.is) ∙ c.new_committee.ensures) in
     let q = c.certifying_blocks_in-found.ensures in
-    let f = final_in_by (as_reading a.reading) a.stakes.now a.store.now l c.in-Taken.total.0
+    let f = final_in_by (as_reading a.reading) a.stakes.now a.store.now l c.in-Ok.total.0
     c.certifying_blocks_in-found.result.authors t.1 q.authors_value in
-    let g : false ≡ quorum_of c.in-Taken.total.0 (stake_of a.stakes.now c.certifying_blocks_in-found.result.authors) =
+    let g : false ≡ quorum_of c.in-Ok.total.0 (stake_of a.stakes.now c.certifying_blocks_in-found.result.authors) =
     rw (← c.stake_of.ensures) (sym c.if-is_quorum.false ∙ c.is_quorum.ensures) in
     let e = finality_asked (as_reading a.reading) a.stakes.now a.store.now a.positions.now l t.0
     (sym c.in_order.ensures ∙ c.if-not-in_order.false)

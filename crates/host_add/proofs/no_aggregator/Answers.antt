@@ -11,5 +11,5 @@ returns-in_default c = rw (broken_sound c.args.stakes.now c.in_default.field-0
 
 pub returns : goal.returns
 unfolding refusal
-returns c = rw (taken_sound c.args.stakes.now c.in-Taken.field-0
-    (ap as_new_committee (sym c.in-Taken.is) ∙ c.new_committee.ensures)).0
+returns c = rw (taken_sound c.args.stakes.now c.in-Ok.field-0
+    (ap as_new_committee (sym c.in-Ok.is) ∙ c.new_committee.ensures)).0

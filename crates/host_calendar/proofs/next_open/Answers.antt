@@ -1,3 +1,4 @@
+use Rattle.std.specs.Prelude.{Ok}
 use mathlib.Core.Path.{sym, ap, ◌∙◌}
 use mathlib.Core.Option.{none, some}
 use lib.Seq.{length-take-le}
@@ -16,47 +17,38 @@ returns-in_default c =
     let start = c.args in
     let e = next_refused start.calendar.now start.time start.found.now
     (rw c.in_default.is at c.words_in.ensures) in
-    (sym (ap (λ (x : NextOpenCall). encoded x.answer) e), sym (ap (λ (x : NextOpenCall). x.found) e))
+    (c.refused.ensures ∙ sym (ap (λ (x : NextOpenCall). encoded x.answer) e), sym (ap (λ (x : NextOpenCall). x.found) e))
 
 pub returns-then-found-ne8 : goal.returns-then-found-ne8
 unfolding encoded
 returns-then-found-ne8 c =
     let start = c.args in
-    let told = rw c.in-Words.is at c.words_in.ensures in
+    let told = rw c.in-Some.is at c.words_in.ensures in
     let e = next_unsized start.calendar.now start.time start.found.now told.0 c.if-found-ne8.true in
-    (sym (ap (λ (x : NextOpenCall). encoded x.answer) e), sym (ap (λ (x : NextOpenCall). x.found) e))
+    (c.refused-then-found-ne8.ensures ∙ sym (ap (λ (x : NextOpenCall). encoded x.answer) e), sym (ap (λ (x : NextOpenCall). x.found) e))
 
 pub slice_bounds-held-end : goal.slice_bounds-held-end
 slice_bounds-held-end c =
-    let told = rw c.in-Words.is at c.words_in.ensures in
+    let told = rw c.in-Some.is at c.words_in.ensures in
     let kept = c.words_in.auto.held in
     omega (arith, told.1.0, kept)
 
 pub slice_bounds-next_open-end : goal.slice_bounds-next_open-end
 slice_bounds-next_open-end c =
-    let told = rw c.in-Words.is at c.words_in.ensures in
+    let told = rw c.in-Some.is at c.words_in.ensures in
     let kept = c.words_in.auto.held in
-    sym (length-take-le c.in-Words.n c.words_in.new.held
+    sym (length-take-le c.in-Some.n c.words_in.new.held
     (omega (arith, told.1.0, kept)))
 
-pub overflow_add-result-in-Refused : goal.overflow_add-result-in-Refused
-unfolding as_next_open
-overflow_add-result-in-Refused c =
-    let start = c.args in
-    let told = rw c.in-Words.is at
-    c.words_in.ensures in
-    let asked = sym (rw told.1.1 at c.next_open.ensures) ∙ ap as_next_open c.in-Refused.is in
-    absurd (next_never start.calendar.now start.time start.found.now told.0 _ asked)
-
-pub returns-in-Found : goal.returns-in-Found
+pub returns-in-Ok-Some : goal.returns-in-Ok-Some
 unfolding encoded found_in as_next_open
-returns-in-Found c =
+returns-in-Ok-Some c =
     let start = c.args in
-    let told = rw c.in-Words.is at
+    let told = rw c.in-Some.is at
     c.words_in.ensures in
     let asked = sym (rw told.1.1 at c.next_open.ensures) ∙ ap as_next_open
-    c.in-Found.is in
-    let r = c.in-Found.second in
+    (c.in-Ok-Some.is ∙ ap Ok c.in-Ok-Some.field-0-is) in
+    let r = c.in-Ok-Some.second in
     let e = next_told start.calendar.now start.time start.found.now told.0
     c.if-found-ne8.false (some r) asked in (
       sym (ap (λ (x : NextOpenCall). encoded x.answer) e),
@@ -65,21 +57,21 @@ returns-in-Found c =
           (ap (λ (x : NextOpenCall). x.found) e),
     )
 
-pub returns-in-NoneLeft : goal.returns-in-NoneLeft
+pub returns-in-Ok-None : goal.returns-in-Ok-None
 unfolding encoded found_in as_next_open
-returns-in-NoneLeft c =
+returns-in-Ok-None c =
     let start = c.args in
-    let told = rw c.in-Words.is at
+    let told = rw c.in-Some.is at
     c.words_in.ensures in
-    let asked = sym (rw told.1.1 at c.next_open.ensures) ∙ ap as_next_open c.in-NoneLeft.is in
+    let asked = sym (rw told.1.1 at c.next_open.ensures) ∙ ap as_next_open (c.in-Ok-None.is ∙ ap Ok c.in-Ok-None.field-0-is) in
     let e = next_told start.calendar.now start.time start.found.now told.0 c.if-found-ne8.false none asked in
     (sym (ap (λ (x : NextOpenCall). encoded x.answer) e), sym (ap (λ (x : NextOpenCall). x.found) e))
 
-pub returns-in-Refused : goal.returns-in-Refused
+pub returns-in-Err : goal.returns-in-Err
 unfolding as_next_open
-returns-in-Refused c =
+returns-in-Err c =
     let start = c.args in
-    let told = rw c.in-Words.is at
+    let told = rw c.in-Some.is at
     c.words_in.ensures in
-    let asked = sym (rw told.1.1 at c.next_open.ensures) ∙ ap as_next_open c.in-Refused.is in
+    let asked = sym (rw told.1.1 at c.next_open.ensures) ∙ ap as_next_open c.in-Err.is in
     absurd (next_never start.calendar.now start.time start.found.now told.0 _ asked)

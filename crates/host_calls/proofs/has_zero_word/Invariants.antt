@@ -8,6 +8,3 @@ use Rattle.host_calls.proofs.has_zero_word.Given as goal
 
 abbrev pub invariant-loop-i : goal.invariant-loop-i
 invariant-loop-i l = (l.i ≤ l.n) × (any_of (λ w. eqb w 0) (words_of l.bytes) ≡ any_of (λ w. eqb w 0) (drop l.i (words_of l.bytes)))
-
-abbrev pub decreases-loop-i : goal.decreases-loop-i
-decreases-loop-i l = l.n - l.i

@@ -1,37 +1,22 @@
-use Rattle.host_feed_bytes.proofs.Feeds.{fed_most}
 use Rattle.host_calls.specs.Calls.{encoded}
 use Rattle.host_feed_bytes.specs.Feed.{feed_call}
 use Rattle.feed_single.specs.Answers.{as_feed_answer}
 use native.Mathlib.Omega.{arith}
-use lib.ListN.{take}
 use lib.Seq.{length-take-le}
-use mathlib.Core.Path.{sym, ap, ◌∙◌}
+use mathlib.Core.Path.{sym, ◌∙◌}
 use Rattle.host_feed.proofs.feed.Goals as goal
 
 pub slice_bounds-feed_of-end : goal.slice_bounds-feed_of-end
 slice_bounds-feed_of-end c = sym (length-take-le c.stakes_of-n.result c.stakes_of-n.new.stakes
     (omega (arith, c.stakes_of-n.auto.stakes, c.stakes_of-n.ensures.0)))
 
-pub overflow_add-result : goal.overflow_add-result
-unfolding as_feed_answer
-overflow_add-result c =
-    let held = take c.stakes_of-n.result c.stakes_of-n.new.stakes in
-    let start = c.args in
-    let n = c.in-Refused.number in
-    omega (
-      arith,
-      fed_most held start.store.now start.table.now start.events.now start.rec.now n
-          (sym c.feed_of.ensures.result_value ∙ ap as_feed_answer
-          c.in-Refused.is),
-    )
-
-pub returns-in-Events : goal.returns-in-Events
+pub returns-in-Ok : goal.returns-in-Ok
 unfolding encoded feed_call as_feed_answer
-returns-in-Events c = record {
+returns-in-Ok c = record {
   value = rw (
     ← c.stakes_of-n.ensures.1,
     ← c.feed_of.ensures.result_value,
-    c.in-Events.is,
+    c.in-Ok.is,
   );
   store_after = rw (← c.stakes_of-n.ensures.1)
       c.feed_of.ensures.store_after;
@@ -42,13 +27,13 @@ returns-in-Events c = record {
       c.feed_of.ensures.events_after;
 }
 
-pub returns-in-Refused : goal.returns-in-Refused
+pub returns-in-Err : goal.returns-in-Err
 unfolding encoded feed_call as_feed_answer
-returns-in-Refused c = record {
-  value = rw (
+returns-in-Err c = record {
+  value = c.refused.ensures ∙ rw (
     ← c.stakes_of-n.ensures.1,
     ← c.feed_of.ensures.result_value,
-    c.in-Refused.is,
+    c.in-Err.is,
   );
   store_after = rw (← c.stakes_of-n.ensures.1)
       c.feed_of.ensures.store_after;

@@ -1,6 +1,6 @@
 use Rattle.host_locators.proofs.Locators.{locator_none, locator_read}
 use Rattle.host_final_answers.specs.Answers.{after_of, as_after, after_locator}
-use Rattle.list_after.specs.Answers.{as_maybe}
+use Rattle.types.specs.Values.{as_maybe}
 use lib.ListN.{length}
 use borrow.Author.Tests.{eq-eqb, ne_eqb}
 use Rattle.host_final_answers.proofs.after_of.Goals as goal

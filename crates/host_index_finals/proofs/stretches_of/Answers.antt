@@ -1,3 +1,4 @@
+use Rattle.base.specs.Checks.{refused}
 use Rattle.final_readings_spec.specs.Readings.{old}
 use Rattle.list_readings_spec.specs.Answers.{is_ordinary}
 use Rattle.list_readings_spec.specs.Lists.{listing}
@@ -8,22 +9,12 @@ use Rattle.host_calls.specs.Calls.{encoded}
 use Rattle.host_final_answers.specs.Answers.{as_after, after_of, stretches_number}
 use Rattle.host_finals.specs.Stretches.{StretchesCall}
 use Rattle.host_index_finals.specs.Indexed.{stretches_indexed_in}
-use Rattle.host_index_finals.proofs.Stretched.{indexed_most, counts_fit_lem, stretches_malformed, stretches_unsized, stretches_asked}
+use Rattle.host_index_finals.proofs.Stretched.{counts_fit_lem, stretches_malformed, stretches_unsized, stretches_asked}
 use borrow.Author.Rules.{rules}
 use Rattle.host_index_finals.proofs.stretches_of.Goals as goal
 
 pub enum_told-1 : goal.enum_told-1
 enum_told-1 c = search rules
-
-pub overflow_add-result : goal.overflow_add-result
-overflow_add-result c = omega (
-  arith,
-  c.refusal_indexed.ensures,
-  indexed_most 20
-      c.args.stakes.now
-      c.args.store.now
-      c.args.index.now (omega arith),
-)
 
 pub returns-in_default : goal.returns-in_default
 unfolding encoded as_after
@@ -31,30 +22,24 @@ returns-in_default c =
     let start = c.args in
     let place = sym c.after_of.ensures ∙ ap as_after c.in_default.is in
     let e = stretches_malformed start.stakes.now start.store.now start.index.now
-    (listing (is_ordinary start.list) old start.stakes.now (blocks_of start.store.now)) (after_of start.after.now) start.out.now place in
-    (rw c.refusal_indexed.ensures (sym (ap (λ (x : StretchesCall). encoded x.answer) e)), sym (ap (λ (x : StretchesCall). x.stretches) e))
-
-pub overflow_add-result-then-not-holds_stretches : goal.overflow_add-result-then-not-holds_stretches
-overflow_add-result-then-not-holds_stretches c = omega (
-  arith,
-  c.refusal_indexed-then-not-holds_stretches.ensures,
-  indexed_most 40
-      c.args.stakes.now
-      c.args.store.now
-      c.args.index.now (omega arith),
-)
+    (listing (is_ordinary start.list) old start.stakes.now (blocks_of start.store.now)) (after_of start.after.now) start.out.now place in (
+      c.refused.ensures ∙ ap (λ n. encoded (refused n)) c.refusal_indexed.ensures
+          ∙ sym (ap (λ (x : StretchesCall). encoded x.answer) e),
+      sym (ap (λ (x : StretchesCall). x.stretches) e),
+    )
 
 pub returns-then-not-holds_stretches : goal.returns-then-not-holds_stretches
 unfolding encoded as_after
 returns-then-not-holds_stretches c =
     let start = c.args in
     let place = sym c.after_of.ensures ∙ ap as_after
-    c.in-Place.is in
+    c.in-Ok.is in
     let room = sym c.holds_stretches.ensures ∙ c.if-not-holds_stretches.true in
     let e = stretches_unsized start.stakes.now start.store.now start.index.now
     (listing (is_ordinary start.list) old start.stakes.now (blocks_of start.store.now)) (after_of start.after.now) start.out.now _ place
     room in (
-      rw c.refusal_indexed-then-not-holds_stretches.ensures (sym (ap (λ (x : StretchesCall). encoded x.answer) e)),
+      c.refused-then-not-holds_stretches.ensures ∙ ap (λ n. encoded (refused n)) c.refusal_indexed-then-not-holds_stretches.ensures
+          ∙ sym (ap (λ (x : StretchesCall). encoded x.answer) e),
       sym
           (ap (λ (x : StretchesCall). x.stretches) e),
     )
@@ -73,7 +58,7 @@ unfolding as_after stretches_indexed_in
 returns c =
     let start = c.args in
     let place = sym c.after_of.ensures ∙ ap as_after
-    c.in-Place.is in
+    c.in-Ok.is in
     let room = sym c.holds_stretches.ensures ∙ c.if-not-holds_stretches.false in
     let e = stretches_asked start.stakes.now start.store.now start.index.now
     (listing (is_ordinary start.list) old start.stakes.now (blocks_of start.store.now)) (after_of start.after.now) start.out.now _ place

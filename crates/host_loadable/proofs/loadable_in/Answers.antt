@@ -11,36 +11,25 @@ slice_bounds-loadable_in-end c =
     let w = c.stakes_of-n in
     sym (length-take-le w.result w.new.stakes (omega (arith, w.auto.stakes, w.ensures.0)))
 
-pub overflow_add-result : goal.overflow_add-result
-overflow_add-result c =
-    let a = c.args in
-    let w = c.loadable_in in
-    let e = list_same (as_reading a.reading) a.stakes.now a.store.now a.places.now _
-    c.stakes_of-n.ensures.1 in
-    omega (
-      arith,
-      (told_denied (as_reading a.reading) a.stakes.now a.store.now a.places.now w.result
-          (w.ensures.result_value ∙ ap (λ (x : AskedList). x.answer) e) c.in-Refused.number c.in-Refused.is).0,
-    )
-
-pub returns-in-Places : goal.returns-in-Places
-returns-in-Places c =
+pub returns-in-Ok : goal.returns-in-Ok
+returns-in-Ok c =
     let a = c.args in
     let w = c.loadable_in in
     let e = list_same (as_reading a.reading) a.stakes.now a.store.now a.places.now _
     c.stakes_of-n.ensures.1 in record {
       value = told_number (as_reading a.reading) a.stakes.now a.store.now a.places.now w.result (w.ensures.result_value ∙ ap (λ (x : AskedList). x.answer) e)
-          c.in-Places.count c.in-Places.is;
+          c.in-Ok.count c.in-Ok.is;
       places_after = w.ensures.places_after ∙ ap (λ (x : AskedList). x.places) e;
     }
 
-pub returns-in-Refused : goal.returns-in-Refused
-returns-in-Refused c =
+pub returns-in-Err : goal.returns-in-Err
+returns-in-Err c =
     let a = c.args in
     let w = c.loadable_in in
     let e = list_same (as_reading a.reading) a.stakes.now a.store.now a.places.now _
     c.stakes_of-n.ensures.1 in record {
-      value = (told_denied (as_reading a.reading) a.stakes.now a.store.now a.places.now w.result (w.ensures.result_value ∙ ap (λ (x : AskedList). x.answer) e)
-          c.in-Refused.number c.in-Refused.is).1;
+      value = c.refused.ensures ∙ told_denied (as_reading a.reading) a.stakes.now a.store.now a.places.now w.result
+          (w.ensures.result_value ∙ ap (λ (x : AskedList). x.answer) e)
+          c.in-Err.refusal c.in-Err.is;
       places_after = w.ensures.places_after ∙ ap (λ (x : AskedList). x.places) e;
     }

@@ -1,17 +1,17 @@
 use mathlib.Core.Path.{ap}
+use Rattle.std.proofs.lemmas.Result.{err_from_is_err_and}
 use Rattle.store_payload.specs.Answers.{as_payload_length}
 use Rattle.base.specs.Checks.{refused}
 use Rattle.host_locators.specs.Locators.{asked}
-use Rattle.host_locators.proofs.Locators.{locator_none, locator_read}
 use Rattle.host_payload_bytes.proofs.payload_length.Goals as goal
 
-pub returns-then-locator-ne-LOCATOR_BYTES : goal.returns-then-locator-ne-LOCATOR_BYTES
+pub returns-in_err-share : goal.returns-in_err-share
 unfolding as_payload_length asked
-returns-then-locator-ne-LOCATOR_BYTES c = rw (locator_none c.args.locator.now c.if-locator-ne-LOCATOR_BYTES.true) (ap refused c.refusal_before.ensures)
+returns-in_err-share c =
+    let told = c.in_err-share.ensures in
+    let p = err_from_is_err_and c.from_residual.result c.from_residual.ensures.1 in
+    rw (p.1, p.2, told.0) (ap refused told.1)
 
 pub returns : goal.returns
 unfolding asked
-returns c = rw (
-  locator_read c.args.locator.now c.if-locator-ne-LOCATOR_BYTES.false,
-  ← c.read_locator.ensures,
-) c.payload_length.ensures
+returns c = rw c.in_ok-share.ensures c.payload_length.ensures

@@ -11,35 +11,25 @@ slice_bounds-answer_sorted-end c =
     let w = c.stakes_of-n in
     sym (length-take-le w.result w.new.stakes (omega (arith, w.auto.stakes, w.ensures.0)))
 
-pub overflow_add-result : goal.overflow_add-result
-overflow_add-result c =
-    let a = c.args in
-    let w = c.answer_sorted in
-    let h = c.stakes_of-n.ensures.1 in
-    omega (
-      arith,
-      (told_refusal (committee_of a.stakes.now) a.store.now a.index.now a.locators.now a.replies.now _ h w.result
-          w.ensures.result_value c.in-Refused.number c.in-Refused.is).0,
-    )
-
-pub returns-in-Replies : goal.returns-in-Replies
-returns-in-Replies c =
+pub returns-in-Ok : goal.returns-in-Ok
+returns-in-Ok c =
     let a = c.args in
     let w = c.answer_sorted in
     let h = c.stakes_of-n.ensures.1 in record {
       value = told_count (committee_of a.stakes.now) a.store.now a.index.now a.locators.now a.replies.now _ h w.result w.ensures.result_value
-          c.in-Replies.count c.in-Replies.is;
+          c.in-Ok.count c.in-Ok.is;
       replies_after = w.ensures.replies_after ∙ ap (λ (x : AskedSorted). x.out)
           (call_same (committee_of a.stakes.now) a.store.now a.index.now a.locators.now a.replies.now _ h);
     }
 
-pub returns-in-Refused : goal.returns-in-Refused
-returns-in-Refused c =
+pub returns-in-Err : goal.returns-in-Err
+returns-in-Err c =
     let a = c.args in
     let w = c.answer_sorted in
     let h = c.stakes_of-n.ensures.1 in record {
-      value = (told_refusal (committee_of a.stakes.now) a.store.now a.index.now a.locators.now a.replies.now _ h w.result w.ensures.result_value
-          c.in-Refused.number c.in-Refused.is).1;
+      value = c.refused.ensures ∙ told_refusal (committee_of a.stakes.now) a.store.now a.index.now a.locators.now a.replies.now _ h w.result
+          w.ensures.result_value
+          c.in-Err.refusal c.in-Err.is;
       replies_after = w.ensures.replies_after ∙ ap (λ (x : AskedSorted). x.out)
           (call_same (committee_of a.stakes.now) a.store.now a.index.now a.locators.now a.replies.now _ h);
     }

@@ -1,4 +1,4 @@
-use mathlib.Core.Path.{sym}
+use mathlib.Core.Path.{sym, ◌∙◌}
 use lib.Seq.{length-take-le}
 use native.Mathlib.Omega.{arith}
 use Rattle.host_calls.specs.Calls.{encoded}
@@ -12,8 +12,8 @@ slice_bounds-held-end c =
     let l = c.load in
     omega (
       arith,
-      (held_members start.file.now l.new.stakes l.result l.ensures.result_value l.ensures.stakes_after c.in-Members.n
-          c.in-Members.is).0,
+      (held_members start.file.now l.new.stakes l.result l.ensures.result_value l.ensures.stakes_after c.in-Ok.n
+          c.in-Ok.is).0,
       l.auto.stakes,
     )
 
@@ -21,10 +21,10 @@ pub slice_bounds-put_stakes-end : goal.slice_bounds-put_stakes-end
 slice_bounds-put_stakes-end c =
     let start = c.args in
     let l = c.load in
-    sym (length-take-le c.in-Members.n l.new.stakes (omega (
+    sym (length-take-le c.in-Ok.n l.new.stakes (omega (
       arith,
       (held_members start.file.now l.new.stakes l.result l.ensures.result_value l.ensures.stakes_after
-          c.in-Members.n c.in-Members.is).0,
+          c.in-Ok.n c.in-Ok.is).0,
       l.auto.stakes,
     )))
 
@@ -32,32 +32,22 @@ pub put_stakes-requires : goal.put_stakes-requires
 put_stakes-requires c =
     let start = c.args in
     let l = c.load in
-    let few = (held_members start.file.now l.new.stakes l.result l.ensures.result_value l.ensures.stakes_after c.in-Members.n c.in-Members.is).0 in
-    omega (arith, length-take-le c.in-Members.n l.new.stakes (omega (arith, l.auto.stakes)))
+    let few = (held_members start.file.now l.new.stakes l.result l.ensures.result_value l.ensures.stakes_after c.in-Ok.n c.in-Ok.is).0 in
+    omega (arith, length-take-le c.in-Ok.n l.new.stakes (omega (arith, l.auto.stakes)))
 
-pub overflow_add-result : goal.overflow_add-result
-overflow_add-result c =
-    let start = c.args in
-    let l = c.load in
-    omega (
-      arith,
-      (held_refused start.file.now l.new.stakes l.result l.ensures.result_value l.ensures.stakes_after c.in-Refused.number
-          c.in-Refused.is).0,
-    )
-
-pub returns-in-Members : goal.returns-in-Members
+pub returns-in-Ok : goal.returns-in-Ok
 unfolding load_stakes_call
-returns-in-Members c =
+returns-in-Ok c =
     let start = c.args in
     let l = c.load in
-    let e = (held_members start.file.now l.new.stakes l.result l.ensures.result_value l.ensures.stakes_after c.in-Members.n c.in-Members.is).1 in
+    let e = (held_members start.file.now l.new.stakes l.result l.ensures.result_value l.ensures.stakes_after c.in-Ok.n c.in-Ok.is).1 in
     (rw e c.put_stakes.ensures.0, rw e c.put_stakes.ensures.1)
 
-pub returns-in-Refused : goal.returns-in-Refused
+pub returns-in-Err : goal.returns-in-Err
 unfolding load_stakes_call loaded_bytes encoded
-returns-in-Refused c =
+returns-in-Err c =
     let start = c.args in
     let l = c.load in
-    let e = (held_refused start.file.now l.new.stakes l.result l.ensures.result_value l.ensures.stakes_after c.in-Refused.number
-    c.in-Refused.is).1 in
-    (rw e, rw e)
+    let e = held_refused start.file.now l.new.stakes l.result l.ensures.result_value l.ensures.stakes_after c.in-Err.refusal
+    c.in-Err.is in
+    (c.refused.ensures ∙ rw e, rw e)

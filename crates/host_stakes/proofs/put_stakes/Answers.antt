@@ -1,5 +1,5 @@
 use Prim.Native.Nat.{◌*◌}
-use mathlib.Core.Path.{◌≡◌, sym}
+use mathlib.Core.Path.{◌≡◌, sym, ◌∙◌}
 use lib.ListN.{length}
 use lib.Seq.{length-take-le}
 use native.Mathlib.Omega.{arith}
@@ -12,7 +12,7 @@ unfolding encoded
 returns-then-stakes-ne1024 c =
     let start = c.args in
     let e = put_other start.members.now start.stakes.now (λ (z : length start.stakes.now ≡ 1024). omega arith) in
-    (rw e, rw e)
+    (c.refused.ensures ∙ rw e, rw e)
 
 pub slice_bounds-bytes_of-end-2 : goal.slice_bounds-bytes_of-end-2
 slice_bounds-bytes_of-end-2 c =

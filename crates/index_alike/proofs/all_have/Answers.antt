@@ -1,5 +1,4 @@
 use mathlib.Core.Path.{refl}
-use Prim.Native.Nat.{◌-◌}
 use Rattle.base.proofs.Tests.{not_both}
 use Rattle.index_pieces.specs.Sources.{cursor_at, cursor_left}
 use Rattle.index_alike.proofs.Alike.{have_start, have_on, have_end}

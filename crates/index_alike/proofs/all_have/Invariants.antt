@@ -4,6 +4,3 @@ use Rattle.index_alike.proofs.all_have.Given as goal
 
 abbrev pub invariant-loop-j : goal.invariant-loop-j
 invariant-loop-j l = AllHave l.index l.cursors l.j l.pos l.k
-
-abbrev pub decreases-loop-j : goal.decreases-loop-j
-decreases-loop-j l = l.n - l.j

@@ -1,5 +1,4 @@
 use mathlib.Core.Path.{refl}
-use Prim.Native.Nat.{◌-◌}
 use Rattle.base.proofs.Tests.{not_both}
 use Rattle.index_alike.proofs.Alike.{same_more, run_same}
 use native.Mathlib.Omega.{arith}

@@ -1,5 +1,4 @@
 use mathlib.Core.Path.{◌≡◌, subst}
-use Prim.Native.Nat.{◌-◌}
 use native.Mathlib.Omega.{arith}
 use Rattle.index_alike.specs.Alike.{Shared}
 use Rattle.index_alike.proofs.Alike.{shared_start, shared_on}

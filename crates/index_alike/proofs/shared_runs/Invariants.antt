@@ -4,6 +4,3 @@ use Rattle.index_alike.proofs.shared_runs.Given as goal
 
 abbrev pub invariant-loop-k : goal.invariant-loop-k
 invariant-loop-k l = (l.k ≤ l.most) × Shared l.index l.cursors l.n l.pos l.k
-
-abbrev pub decreases-loop-k : goal.decreases-loop-k
-decreases-loop-k l = l.most - l.k

@@ -1,13 +1,12 @@
 use mathlib.Core.Path.{sym, ap, subst, ◌∙◌}
 use mathlib.Core.List.{List}
-use Prim.Native.Nat.{ℕ, ◌+◌, ◌-◌, ◌*◌, ◌≤◌}
+use Prim.Native.Nat.{ℕ, ◌+◌, ◌*◌, ◌≤◌}
 use native.Mathlib.Omega.{arith}
 use lib.ListN.{set, length-set}
 use lib.Seq.{take-set-le, length-take-le}
 use Rattle.index_runs.specs.Values.{as_run, as_maybe, as_place}
 use Rattle.index_pieces.specs.Sources.{Ready}
 use Rattle.index_append.proofs.Appending.{appending_start, runs_same, appending_none, appending_few, appending_on, appending_end}
-use borrow.Author.Rules.{rules}
 use Rattle.index_append.proofs.append_part.Goals as goal
 
 pub offset_bounds-index-used : goal.offset_bounds-index-used
@@ -111,7 +110,7 @@ returns-then-count-k c = λ xs r h.
     absurd (omega (
       arith,
       appending_few a.own.now m.new.mine (set a.index.now a.used a.count) a.used a.count a.n m.new.cursors g.mine
-          g.index g.cursors (as_maybe g.next) g.k g.invariant (as_run c.in-Here.x) (ap as_maybe c.in-Here.is)
+          g.index g.cursors (as_maybe g.next) g.k g.invariant (as_run c.in-Some.x) (ap as_maybe c.in-Some.is)
           w.new.mine w.new.cursors w.result w.ensures xs
           (runs_same a.own.now a.mine.now a.index.now a.used a.count a.n a.cursors.now m.new.mine m.new.cursors
           m.ensures.moved.0 m.ensures.moved.1 xs r),
@@ -193,7 +192,7 @@ loop-k-preserved c = let a = c.args in
     let g = c.loop-k in
     let w = c.next_stride-runs in
     appending_on a.own.now m.new.mine (set a.index.now a.used a.count) a.used a.count a.n m.new.cursors g.mine
-    g.index g.cursors (as_maybe g.next) g.k g.invariant (as_run c.in-Here.x) (ap as_maybe c.in-Here.is)
+    g.index g.cursors (as_maybe g.next) g.k g.invariant (as_run c.in-Some.x) (ap as_maybe c.in-Some.is)
     w.new.mine w.new.cursors w.result w.ensures (omega (arith, c.if-count-k.false)) _ c.write_stride.ensures
 
 pub overflow_add-index : goal.overflow_add-index

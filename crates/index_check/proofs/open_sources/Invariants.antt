@@ -11,6 +11,3 @@ use Rattle.index_check.proofs.open_sources.Given as goal
 abbrev pub invariant-loop-j : goal.invariant-loop-j
 invariant-loop-j l = (length l.cursors ≡ length l.initial.cursors) × ((l.j ≤ length (block_in l.rec).includes) × ((bs :
     List Block) → Known l.store l.order l.index l.starts bs → Rooted l.store bs (block_in l.rec) → Opening bs (block_in l.rec) l.index l.cursors l.j))
-
-abbrev pub decreases-loop-j : goal.decreases-loop-j
-decreases-loop-j l = length (block_in l.rec).includes - l.j

@@ -183,13 +183,6 @@ bounds-starts-place c = omega (
   c.loop-i.invariant.1.known.long,
 )
 
-pub overflow_add-i : goal.overflow_add-i
-overflow_add-i c = omega (
-  arith,
-  c.loop-i-test.true,
-  c.well_formed.1.0,
-)
-
 pub loop-i-smaller : goal.loop-i-smaller
 unfolding SortedStore
 loop-i-smaller c = let a = c.args in
@@ -229,7 +222,7 @@ loop-i-preserved c = let a = c.args in
           (omega (
             arith,
             c.loop-i-test.true,
-          )) _ e c.record_part_end-ended.result c.record_part_end-ended.ensures c.in-Ends.next c.in-Ends.is c.place_of-place.result
+          )) _ e c.record_part_end-ended.result c.record_part_end-ended.ensures c.in-Some.next c.in-Some.is c.place_of-place.result
           c.place_of-place.ensures.0 (c.place_of-place.ensures.1 ∙ c.reference_at.ensures) c.record_end-end.result c.record_end-end.ensures,
     )
 

@@ -9,6 +9,3 @@ abbrev pub invariant-loop-i : goal.invariant-loop-i
 invariant-loop-i l = ((0 < length l.index) ×
     ((length l.rows ≡ length l.initial.rows) × (length l.own ≡ length l.initial.own)))
     × Agreeing l.store l.order l.index l.initial.starts l.starts l.at l.pos l.i
-
-abbrev pub decreases-loop-i : goal.decreases-loop-i
-decreases-loop-i l = length (records_of l.store) - l.i

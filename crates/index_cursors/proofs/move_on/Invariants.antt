@@ -4,6 +4,3 @@ use Rattle.index_cursors.proofs.move_on.Given as goal
 
 abbrev pub invariant-loop-j : goal.invariant-loop-j
 invariant-loop-j l = (l.j ≤ l.n) × MovingBy l.initial.cursors l.k l.cursors l.j
-
-abbrev pub decreases-loop-j : goal.decreases-loop-j
-decreases-loop-j l = l.n - l.j

@@ -62,7 +62,7 @@ note_block-requires c =
     let a = o.args in
     let m : Lent = lent_of a.store.now a.table.now a.work.now a.events.now in
     let f = c.feed_agreed-answer.ensures in
-    let e = sym (ap as_feed_answer c.in-Events.is) ∙ f.result_value in
+    let e = sym (ap as_feed_answer c.in-Ok.is) ∙ f.result_value in
     let used = c.read_u32-at.ensures ∙ used_up a.store.now o.requires.agreed.laid in record {
       store = rw (f.store_after, used) (
         laid a.stakes.now m a.index.now a.rec.now a.order.now a.starts.now o.requires _ e,
@@ -79,7 +79,7 @@ overflow_mul-result c =
     let a = o.args in
     let m : Lent = lent_of a.store.now a.table.now a.work.now a.events.now in
     let f = c.feed_agreed-answer.ensures in
-    let e = sym (ap as_feed_answer c.in-Events.is) ∙ f.result_value in
+    let e = sym (ap as_feed_answer c.in-Ok.is) ∙ f.result_value in
     omega (
       arith,
       told_room a.stakes.now m a.index.now a.rec.now a.order.now a.starts.now o.requires _ e,
@@ -95,17 +95,17 @@ overflow_add-result c =
     let a = o.args in
     let m : Lent = lent_of a.store.now a.table.now a.work.now a.events.now in
     let f = c.feed_agreed-answer.ensures in
-    let e = sym (ap as_feed_answer c.in-Refused.is) ∙ f.result_value in
-    omega (arith, feed_below a.stakes.now m a.index.now a.rec.now _ (sym e))
+    let e = sym (ap as_feed_answer c.in-Err.is) ∙ f.result_value in
+    omega (arith, feed_below a.stakes.now m a.index.now a.rec.now _ (sym e), c.number.ensures)
 
-pub returns-in-Events : goal.returns-in-Events
+pub returns-in-Ok : goal.returns-in-Ok
 unfolding as_feed_answer
-returns-in-Events c =
+returns-in-Ok c =
     let o = c in
     let a = o.args in
     let m : Lent = lent_of a.store.now a.table.now a.work.now a.events.now in
     let f = c.feed_agreed-answer.ensures in
-    let e = sym (ap as_feed_answer c.in-Events.is) ∙ f.result_value in
+    let e = sym (ap as_feed_answer c.in-Ok.is) ∙ f.result_value in
     let used = c.read_u32-at.ensures ∙ used_up a.store.now
     o.requires.agreed.laid in
     let bytes = bytes_of c.feed_agreed-answer.new.store
@@ -121,15 +121,15 @@ returns-in-Events c =
           c.note_block.auto.order);
     }
 
-pub returns-in-Refused : goal.returns-in-Refused
+pub returns-in-Err : goal.returns-in-Err
 unfolding as_feed_answer
-returns-in-Refused c =
+returns-in-Err c =
     let o = c in
     let a = o.args in
     let m : Lent = lent_of a.store.now a.table.now a.work.now a.events.now in
     let f = c.feed_agreed-answer.ensures in
-    let e = sym (ap as_feed_answer c.in-Refused.is) ∙ f.result_value in record {
-      told = rw (f.store_after, f.table_after, f.index_after, f.events_after) (told_refused a.stakes.now m a.index.now a.rec.now a.order.now a.starts.now
-          o.requires _ e);
+    let e = sym (ap as_feed_answer c.in-Err.is) ∙ f.result_value in record {
+      told = rw (c.number.ensures, f.store_after, f.table_after, f.index_after, f.events_after) (told_refused a.stakes.now m a.index.now a.rec.now
+          a.order.now a.starts.now o.requires _ e);
       ready = rw (f.store_after, f.table_after, f.index_after) (ready_refused a.stakes.now m a.index.now a.rec.now a.order.now a.starts.now o.requires _ e);
     }

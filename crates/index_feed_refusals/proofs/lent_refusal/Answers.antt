@@ -1,26 +1,29 @@
-use mathlib.Core.Path.{◌≡◌, sym, ap, ◌∙◌}
-use Prim.Native.Nat.{ℕ}
+use mathlib.Core.Path.{refl, sym, ap, ◌∙◌}
 use native.Mathlib.Omega.{arith}
 use lib.ListN.{length}
 use lib.Seq.{length-take-le}
+use Rattle.std.proofs.lemmas.Result.{err_from_is_err_and}
+use Rattle.base.proofs.Refusals.{number_not_zero}
 use Rattle.pending_question.proofs.Lending.{lying}
 use Rattle.final_block_votes.proofs.Along.{sorted_count}
 use Rattle.final_block_votes.proofs.Sorting.{some_committee}
 use Rattle.index_feed_spec.proofs.Order.{lent_pending, lent_index}
 use Rattle.index_feed_refusals.proofs.lent_refusal.Goals as goal
 
-pub returns-then-lent-ne0 : goal.returns-then-lent-ne0
-returns-then-lent-ne0 c = let a = c.args in
-    let e = c.lent_refusal-lent.ensures.first in
-    record {
-      refusal_value = e ∙ sym (lent_pending a.stakes.now a.store.now a.table.now a.index.now (λ z. c.if-lent-ne0.true (e ∙ z)));
-      count_bound = λ z.
-          absurd (c.if-lent-ne0.true z);
-    }
+pub returns-in_err-lent_refusal : goal.returns-in_err-lent_refusal
+returns-in_err-lent_refusal c =
+    let a = c.args in
+    let n = c.in_err-lent_refusal.field-0.0 in
+    let p = err_from_is_err_and c.from_residual.result c.from_residual.ensures.1 in
+    let e = c.in_err-lent_refusal.ensures.first in
+    rw (p.1, p.2) (record {
+      refusal_value = e ∙ sym (lent_pending a.stakes.now a.store.now a.table.now a.index.now (λ z. number_not_zero n (e ∙ z)));
+      count_bound = tt;
+    })
 
 pub sorted_positions-count-requires : goal.sorted_positions-count-requires
 sorted_positions-count-requires c = (
-  c.lent_refusal-lent.ensures.laid c.if-lent-ne0.false,
+  c.in_ok-lent_refusal.ensures.laid refl,
   c.requires.0,
 )
 
@@ -42,13 +45,13 @@ slice_bounds-agrees-end-2 c = sym (length-take-le _ _ (omega (
 
 pub agrees-requires : goal.agrees-requires
 agrees-requires c = let a = c.args in
-    let e = c.lent_refusal-lent.ensures in
-    let l = lying a.stakes.now a.store.now a.table.now (sym e.first ∙ c.if-lent-ne0.false) in
+    let e = c.in_ok-lent_refusal.ensures in
+    let l = lying a.stakes.now a.store.now a.table.now (sym e.first) in
     let p = c.sorted_positions-count.ensures in (
       some_committee (record {
         sound = l.committee;
         in_order = l.store;
-        laid = e.laid c.if-lent-ne0.false;
+        laid = e.laid refl;
         places = p.1.1;
       }),
       omega (
@@ -56,39 +59,38 @@ agrees-requires c = let a = c.args in
         p.0,
         p.1.0,
         c.requires.1,
-        ap length p.1.1 ∙ sorted_count a.store.now (e.laid c.if-lent-ne0.false),
+        ap length p.1.1 ∙ sorted_count a.store.now (e.laid refl),
       ),
     )
 
 pub returns-then-not-agrees : goal.returns-then-not-agrees
 returns-then-not-agrees c = let a = c.args in
-    let e = c.lent_refusal-lent.ensures.first in record {
+    record {
       refusal_value = sym (lent_index a.stakes.now a.store.now a.table.now a.index.now
-          (sym e ∙ c.if-lent-ne0.false) ∙ rw
+          (sym c.in_ok-lent_refusal.ensures.first) ∙ rw
           (sym c.agrees.ensures.value ∙ c.if-not-agrees.true));
-      count_bound = λ (z : ◌≡◌ {A = ℕ} 54 0). absurd (omega arith);
+      count_bound = tt;
     }
 
 pub returns : goal.returns
 returns c = let a = c.args in
-    let e = c.lent_refusal-lent.ensures in
+    let e = c.in_ok-lent_refusal.ensures in
     let l = lying a.stakes.now a.store.now a.table.now
-    (sym e.first ∙ c.if-lent-ne0.false) in
+    (sym e.first) in
     let p = c.sorted_positions-count.ensures in
     let q = c.agrees.ensures in
     let t = c.if-not-agrees.false in record {
       refusal_value = sym (lent_index a.stakes.now a.store.now a.table.now a.index.now
-          (sym e.first ∙ c.if-lent-ne0.false) ∙ rw (sym q.value ∙ t));
-      count_bound = λ z. (
+          (sym e.first) ∙ rw (sym q.value ∙ t));
+      count_bound = (
         p.0,
         record {
-          lent = sym e.first ∙ c.if-lent-ne0.false;
-          laid = e.laid
-              c.if-lent-ne0.false;
+          lent = sym e.first;
+          laid = e.laid refl;
           sorted = record {
             sound = l.committee;
             in_order = l.store;
-            laid = e.laid c.if-lent-ne0.false;
+            laid = e.laid refl;
             places = p.1.1;
           };
           agrees = sym q.value ∙ t;

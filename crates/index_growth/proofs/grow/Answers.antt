@@ -26,6 +26,7 @@ returns-then-room-eq0 c = let a = c.args in
       room_short a.store.now a.rec.now a.index.now h
           (omega (arith, c.if-room-eq0.true, agrees_inside (blocks_of a.store.now) a.index.now h)),
       refl,
+      refl,
     )
 
 pub slice_bounds-open_sources-end-2 : goal.slice_bounds-open_sources-end-2
@@ -70,6 +71,7 @@ returns-in_default c = let a = c.args in
           (c.open_sources-n.ensures (blocks_of a.store.now) p.known
           p.rooted))) c.in_default.is,
       refl,
+      refl,
     )
 
 pub append_part-requires : goal.append_part-requires
@@ -86,7 +88,7 @@ append_part-requires c = let a = c.args in
           c.if-room-eq0.false,
         )) c.run_count-counted.result
             (c.run_count-counted.ensures _ (new_runs a.store.now a.rec.now _ _ _
-            o.new.words o.result o.ensures.own_runs w)) _ c.in-Runs.is,
+            o.new.words o.result o.ensures.own_runs w)) _ c.in-Some.is,
       );
     }
 
@@ -99,7 +101,7 @@ returns c = let a = c.args in
     (c.open_sources-n.ensures (blocks_of a.store.now) p.known p.rooted) in
     let counted = c.run_count-counted.ensures _
     runs in
-    let is = c.in-Runs.is in (
+    let is = c.in-Some.is in (
       counted_enough a.store.now a.rec.now a.index.now p.agrees (omega (
         arith,
         c.if-room-eq0.false,

@@ -16,24 +16,19 @@ pub returns-in_default : goal.returns-in_default
 returns-in_default c =
     let a = c.args in
     let b = broken_sound a.stakes.now c.in_default.field-0 (ap as_new_committee (sym c.in_default.is) ∙ c.new_committee.ensures) in
-    record {
-      refusal_value = c.refused.ensures ∙ refusal_broken a.stakes.now a.store.now a.index.now b;
-      count_bound = λ z. absurd
-          (omega (arith, c.refused.ensures, z));
-    }
+    record { refusal_value = refusal_broken a.stakes.now a.store.now a.index.now b; count_bound = tt }
 
 pub in_order-requires : goal.in_order-requires
 in_order-requires c =
-    (taken_sound c.args.stakes.now c.in-Taken.total
-    (ap as_new_committee (sym c.in-Taken.is) ∙ c.new_committee.ensures)).0
+    (taken_sound c.args.stakes.now c.in-Ok.total
+    (ap as_new_committee (sym c.in-Ok.is) ∙ c.new_committee.ensures)).0
 
 pub returns-then-not-in_order : goal.returns-then-not-in_order
 returns-then-not-in_order c =
     let a = c.args in
-    let t = taken_sound a.stakes.now c.in-Taken.total (ap as_new_committee (sym c.in-Taken.is) ∙ c.new_committee.ensures) in record {
-      refusal_value = c.refused-then-not-in_order.ensures ∙ refusal_disordered a.stakes.now a.store.now a.index.now t.0
-          (sym c.in_order.ensures ∙ c.if-not-in_order.true);
-      count_bound = λ z. absurd (omega (arith, c.refused-then-not-in_order.ensures, z));
+    let t = taken_sound a.stakes.now c.in-Ok.total (ap as_new_committee (sym c.in-Ok.is) ∙ c.new_committee.ensures) in record {
+      refusal_value = refusal_disordered a.stakes.now a.store.now a.index.now t.0 (sym c.in_order.ensures ∙ c.if-not-in_order.true);
+      count_bound = tt;
     }
 
 pub sorted_positions-count-requires : goal.sorted_positions-count-requires
@@ -63,7 +58,7 @@ slice_bounds-agrees-end-2 c = sym (length-take-le _ _ (omega (
 pub agrees-requires : goal.agrees-requires
 agrees-requires c =
     let a = c.args in
-    let t = taken_sound a.stakes.now c.in-Taken.total (ap as_new_committee (sym c.in-Taken.is) ∙ c.new_committee.ensures) in
+    let t = taken_sound a.stakes.now c.in-Ok.total (ap as_new_committee (sym c.in-Ok.is) ∙ c.new_committee.ensures) in
     let o : store_in_order a.stakes.now a.store.now ≡ true = sym c.in_order.ensures ∙
     c.if-not-in_order.false in
     let l = order_laid a.stakes.now a.store.now o in
@@ -81,26 +76,25 @@ agrees-requires c =
 pub returns-then-not-agrees : goal.returns-then-not-agrees
 returns-then-not-agrees c =
     let a = c.args in
-    let t = taken_sound a.stakes.now c.in-Taken.total (ap as_new_committee (sym c.in-Taken.is) ∙ c.new_committee.ensures) in
+    let t = taken_sound a.stakes.now c.in-Ok.total (ap as_new_committee (sym c.in-Ok.is) ∙ c.new_committee.ensures) in
     let o : store_in_order a.stakes.now a.store.now ≡ true = sym
     c.in_order.ensures ∙ c.if-not-in_order.false in record {
-      refusal_value = c.refused-then-not-agrees.ensures
-          ∙ refusal_disagrees a.stakes.now a.store.now a.index.now t.0 o
+      refusal_value = refusal_disagrees a.stakes.now a.store.now a.index.now t.0 o
           (sym c.agrees.ensures.value ∙ c.if-not-agrees.true);
-      count_bound = λ z. absurd (omega (arith, c.refused-then-not-agrees.ensures, z));
+      count_bound = tt;
     }
 
 pub returns : goal.returns
 returns c =
     let a = c.args in
-    let t = taken_sound a.stakes.now c.in-Taken.total (ap as_new_committee (sym c.in-Taken.is) ∙ c.new_committee.ensures) in
+    let t = taken_sound a.stakes.now c.in-Ok.total (ap as_new_committee (sym c.in-Ok.is) ∙ c.new_committee.ensures) in
     let o : store_in_order a.stakes.now a.store.now ≡ true = sym
     c.in_order.ensures ∙ c.if-not-in_order.false in
     let p = c.sorted_positions-count.ensures in
     let g = c.if-not-agrees.false in
     let w = sym c.agrees.ensures.value ∙ g in record {
       refusal_value = refusal_none a.stakes.now a.store.now a.index.now t.0 o w;
-      count_bound = λ z. (
+      count_bound = (
         p.0,
         record {
           stake = t.1;

@@ -70,15 +70,15 @@ returns c = record {
       c.args.index.now)) in
       let own = subst (MetAll x c.args.own.now 1
       c.args.mine.now c.sources_meet-own_voters.new.ahead)
-      c.in-Named.is
+      c.in-Some.is
       c.sources_meet-own_voters.ensures in
       let all = subst (MetAll x c.args.index.now
       c.args.n c.args.cursors.now c.sources_meet-voters.new.ahead)
-      c.in-Named-voters.is c.sources_meet-voters.ensures in
+      c.in-Some-voters.is c.sources_meet-voters.ensures in
       let next : NextIf x (as_place c.args.place)
-      (united c.in-Named.v
-      c.in-Named-voters.w) (united c.in-Named.v_after
-      c.in-Named-voters.w_after) =
+      (united c.in-Some.v
+      c.in-Some-voters.w) (united c.in-Some.v_after
+      c.in-Some-voters.w_after) =
       rw (
         ← c.union-votes.ensures,
         ← c.union-after.ensures,
@@ -93,15 +93,15 @@ returns c = record {
             c.args.own.now c.args.mine.now 1 l)
             (named_by c.args.index.now c.args.cursors.now
             c.args.n l)) (as_place c.args.place)
-            (united c.in-Named.v
-            c.in-Named-voters.w) (united c.in-Named.v_after
-            c.in-Named-voters.w_after) next
+            (united c.in-Some.v
+            c.in-Some-voters.w) (united c.in-Some.v_after
+            c.in-Some-voters.w_after) next
             (meets_both x (named_by c.args.own.now
             c.args.mine.now 1) (named_by
             c.args.index.now c.args.cursors.now
-            c.args.n) c.in-Named.v
-            c.in-Named-voters.w c.in-Named.v_after
-            c.in-Named-voters.w_after (own next.full).0 (all next.full).0);
+            c.args.n) c.in-Some.v
+            c.in-Some-voters.w c.in-Some.v_after
+            c.in-Some-voters.w_after (own next.full).0 (all next.full).0);
         parts = moved_copied c.args.index.now
             c.args.n (beyond x.reference x.end)
             c.args.cursors.now c.sources_meet-voters.new.ahead (all next.full).1

@@ -8,25 +8,25 @@ use Rattle.index_merge.proofs.source_piece.Goals as goal
 pub loop-left-init : goal.loop-left-init
 loop-left-init c = (refl, (refl, refl))
 
-pub returns-in-Here : goal.returns-in-Here
+pub returns-in-Some : goal.returns-in-Some
 unfolding as_maybe
-returns-in-Here c = record {
+returns-in-Some c = record {
   left_value = c.loop-left.invariant.0;
   index_value = sym (c.loop-left.invariant.1.0 ∙ skip_stop
       (as_place c.args.place)
       c.args.index.now c.loop-left.at
       c.loop-left.left c.loop-left-test.true
-      (as_run c.in-Here.x) (sym (c.from_place-found.ensures ∙ ap
+      (as_run c.in-Some.x) (sym (c.from_place-found.ensures ∙ ap
       (from_place (as_place c.args.place))
-      c.read_run.ensures) ∙ ap as_maybe c.in-Here.is));
+      c.read_run.ensures) ∙ ap as_maybe c.in-Some.is));
   piece_value = sym
       (c.loop-left.invariant.1.1 ∙ piece_stop
       (as_place c.args.place)
       c.args.index.now c.loop-left.at
       c.loop-left.left c.loop-left-test.true
-      (as_run c.in-Here.x) (sym (c.from_place-found.ensures ∙ ap
+      (as_run c.in-Some.x) (sym (c.from_place-found.ensures ∙ ap
       (from_place (as_place c.args.place))
-      c.read_run.ensures) ∙ ap as_maybe c.in-Here.is));
+      c.read_run.ensures) ∙ ap as_maybe c.in-Some.is));
 }
 
 pub loop-left-preserved : goal.loop-left-preserved
@@ -39,13 +39,13 @@ loop-left-preserved c = (
         c.args.index.now c.loop-left.at
         c.loop-left.left c.loop-left-test.true
         (sym (c.from_place-found.ensures ∙ ap (from_place (as_place c.args.place))
-        c.read_run.ensures) ∙ ap as_maybe c.in-Nothing.is),
+        c.read_run.ensures) ∙ ap as_maybe c.in-None.is),
     c.loop-left.invariant.1.1 ∙
         piece_on (as_place c.args.place)
         c.args.index.now c.loop-left.at
         c.loop-left.left c.loop-left-test.true
         (sym (c.from_place-found.ensures ∙ ap (from_place (as_place c.args.place))
-        c.read_run.ensures) ∙ ap as_maybe c.in-Nothing.is),
+        c.read_run.ensures) ∙ ap as_maybe c.in-None.is),
   ),
 )
 

@@ -7,6 +7,3 @@ abbrev pub invariant-loop-k : goal.invariant-loop-k
 invariant-loop-k l = (l.k ≤ l.n) ×
     (Passing l.index (as_place l.place) l.initial.cursors l.cursors l.k
     × SoFar l.index l.initial.cursors (as_place l.place) (as_maybe l.initial.piece) l.k (as_maybe l.piece))
-
-abbrev pub decreases-loop-k : goal.decreases-loop-k
-decreases-loop-k l = l.n - l.k

@@ -62,7 +62,7 @@ returns-then-not-continues c = rw c.ended-run.ensures
     c.args.mine.now c.next_piece-next.new.mine
     c.args.index.now c.args.n c.args.cursors.now
     c.next_piece-next.new.cursors
-    (as_run c.args.first) (ended (as_run c.args.first) c.loop-y.end) o) (ap as_maybe c.in-Here.is)
+    (as_run c.args.first) (ended (as_run c.args.first) c.loop-y.end) o) (ap as_maybe c.in-Some.is)
     (grown_other c.args.own.now c.args.mine.now
     c.args.index.now c.args.n c.args.cursors.now
     (as_run c.args.first) c.loop-y.mine
@@ -75,9 +75,9 @@ returns-then-not-continues c = rw c.ended-run.ensures
     c.next_piece-next.ensures.piece_or
     c.next_piece-next.ensures.moved.0
     c.next_piece-next.ensures.moved.1
-    (as_run c.in-Here.y) (ap as_maybe c.in-Here.is)
-    (sym (ap (λ (r : Run). touches r (as_run c.in-Here.y) && same_voters r.votes
-    (as_run c.in-Here.y).votes)
+    (as_run c.in-Some.y) (ap as_maybe c.in-Some.is)
+    (sym (ap (λ (r : Run). touches r (as_run c.in-Some.y) && same_voters r.votes
+    (as_run c.in-Some.y).votes)
     c.ended-run.ensures) ∙ sym c.continues.ensures
     ∙ c.if-not-continues.true)))
 
@@ -96,9 +96,9 @@ loop-y-smaller c = omega (
       c.next_piece-next.ensures.piece_or
       c.next_piece-next.ensures.moved.0
       c.next_piece-next.ensures.moved.1
-      (as_run c.in-Here.y) (ap as_maybe c.in-Here.is)
-      (sym (ap (λ (r : Run). touches r (as_run c.in-Here.y) && same_voters r.votes
-      (as_run c.in-Here.y).votes)
+      (as_run c.in-Some.y) (ap as_maybe c.in-Some.is)
+      (sym (ap (λ (r : Run). touches r (as_run c.in-Some.y) && same_voters r.votes
+      (as_run c.in-Some.y).votes)
       c.ended-run.ensures) ∙ sym c.continues.ensures
       ∙ c.if-not-continues.false),
 )
@@ -117,8 +117,8 @@ loop-y-preserved c = grown_on c.args.own.now c.args.mine.now
     c.next_piece-next.ensures.piece_or
     c.next_piece-next.ensures.moved.0
     c.next_piece-next.ensures.moved.1
-    (as_run c.in-Here.y) (ap as_maybe c.in-Here.is)
-    (sym (ap (λ (r : Run). touches r (as_run c.in-Here.y) && same_voters r.votes
-    (as_run c.in-Here.y).votes)
+    (as_run c.in-Some.y) (ap as_maybe c.in-Some.is)
+    (sym (ap (λ (r : Run). touches r (as_run c.in-Some.y) && same_voters r.votes
+    (as_run c.in-Some.y).votes)
     c.ended-run.ensures) ∙ sym c.continues.ensures
     ∙ c.if-not-continues.false)

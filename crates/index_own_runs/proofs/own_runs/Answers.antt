@@ -5,7 +5,7 @@ use Rattle.committee_set.specs.AuthoritySet.{AuthoritySet, nobody, inserted}
 use Rattle.record_spec.specs.Reference.{BlockReference}
 use Rattle.record_spec.specs.Block.{author}
 use Rattle.record_spec.specs.Record.{block_in}
-use Rattle.list_after.specs.Answers.{as_maybe}
+use Rattle.types.specs.Values.{as_maybe}
 use Rattle.list_own_ranges.specs.Own.{Roomy}
 use Rattle.list_row_sort.specs.Rows.{rows_of}
 use Rattle.types.specs.Values.{as_reference}

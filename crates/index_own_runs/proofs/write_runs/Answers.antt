@@ -2,7 +2,7 @@ use mathlib.Core.Path.{◌≡◌, sym, subst}
 use mathlib.Core.List.{List}
 use lib.ListN.{get_or}
 use lib.Seq.{sets}
-use Prim.Native.Nat.{ℕ, ◌+◌, ◌-◌, ◌*◌}
+use Prim.Native.Nat.{ℕ, ◌+◌, ◌*◌}
 use Rattle.base.proofs.Le.{bytes_of}
 use Rattle.record_spec.specs.Reference.{BlockReference}
 use Rattle.list_row_sort.specs.Rows.{row_at}
@@ -68,9 +68,6 @@ write_run-requires c = omega (
       c.loop-i.words c.loop-i.i
       c.loop-i.invariant.1,
 )
-
-pub overflow_add-i : goal.overflow_add-i
-overflow_add-i c = omega arith
 
 pub loop-i-smaller : goal.loop-i-smaller
 loop-i-smaller c = omega arith

@@ -8,6 +8,3 @@ use Rattle.index_part_places.proofs.place_at.Given as goal
 
 abbrev pub invariant-loop-k : goal.invariant-loop-k
 invariant-loop-k l = (l.k ≤ length l.words) × (any_of (λ m. eqb m l.word) (drop l.k l.words) ≡ true)
-
-abbrev pub decreases-loop-k : goal.decreases-loop-k
-decreases-loop-k l = length l.words - l.k

@@ -59,7 +59,7 @@ returns-then-not-stands_at c = λ y m d.
     c.args.place)
     c.whole_run-grown.new.mine
     c.whole_run-grown.new.cursors
-    (as_run c.in-Here.x)
+    (as_run c.in-Some.x)
     (as_run c.whole_run-grown.result.run)
     (as_maybe c.whole_run-grown.result.next)
     (subst (PieceOr (together c.args.own.now
@@ -67,7 +67,7 @@ returns-then-not-stands_at c = λ y m d.
     c.args.index.now
     c.next_piece-next.new.cursors c.args.n)
     (as_place c.args.place))
-    (ap as_maybe c.in-Here.is)
+    (ap as_maybe c.in-Some.is)
     (moved_piece c.args.own.now
     c.args.mine.now
     c.args.index.now
@@ -112,7 +112,7 @@ returns c = (
       c.args.place)
       c.whole_run-grown.new.mine
       c.whole_run-grown.new.cursors
-      (as_run c.in-Here.x)
+      (as_run c.in-Some.x)
       (as_run c.whole_run-grown.result.run)
       (as_maybe c.whole_run-grown.result.next)
       (subst (PieceOr (together c.args.own.now
@@ -120,7 +120,7 @@ returns c = (
       c.args.index.now
       c.next_piece-next.new.cursors c.args.n)
       (as_place c.args.place))
-      (ap as_maybe c.in-Here.is)
+      (ap as_maybe c.in-Some.is)
       (moved_piece c.args.own.now
       c.args.mine.now
       c.args.index.now

@@ -90,7 +90,7 @@ loop-spot-smaller c =
     ) in
     let m = c.stand_on-stood in
     let w = subst (StandsOn a.own.now g.mine m.new.mine a.index.now a.n g.cursors m.new.cursors g.spot)
-    c.in-On.is m.ensures in
+    c.in-Some.is m.ensures in
     omega (arith, w.left)
 
 pub loop-spot-preserved : goal.loop-spot-preserved
@@ -105,7 +105,7 @@ loop-spot-preserved c =
     ) in
     let m = c.stand_on-stood in
     let w = subst (StandsOn a.own.now g.mine m.new.mine a.index.now a.n g.cursors m.new.cursors g.spot)
-    c.in-On.is m.ensures in (
+    c.in-Some.is m.ensures in (
       c.ahead-1.given ∙ g.invariant.0,
       holding_on a.own.now a.mine.now g.mine a.index.now a.n
           a.cursors.now g.cursors g.spot a.at g.invariant.1 room _ m.new.mine m.new.cursors w
@@ -146,5 +146,5 @@ returns c = λ xs r.
     holding_more a.own.now a.mine.now g.mine a.index.now a.n a.cursors.now g.cursors g.spot a.at g.invariant.1 room
     (omega (arith, c.loop-spot-test.false))
     (as_maybe c.next_piece-next.result)
-    c.next_piece-next.ensures.piece_or (as_run c.in-Here.field-0)
-    (ap as_maybe c.in-Here.is) xs r
+    c.next_piece-next.ensures.piece_or (as_run c.in-Some-next.field-0)
+    (ap as_maybe c.in-Some-next.is) xs r

@@ -52,7 +52,7 @@ returns-then-most-k c = λ xs r.
     let g = c.loop-next in
     let w = c.next_stride-runs in
     let l = stride_left a.own.now m.new.mine a.index.now a.n m.new.cursors g.mine g.cursors (as_maybe g.next) g.k
-    g.invariant.1 (as_run c.in-Here.x) (ap as_maybe c.in-Here.is) w.new.mine w.new.cursors w.result w.ensures xs
+    g.invariant.1 (as_run c.in-Some.x) (ap as_maybe c.in-Some.is) w.new.mine w.new.cursors w.result w.ensures xs
     (runs_moved a.own.now a.mine.now a.index.now a.n a.cursors.now m.new.mine m.new.cursors m.ensures.moved.0
     m.ensures.moved.1 xs r) in
     omega (arith, c.if-most-k.true, l.few, g.invariant.0)
@@ -81,5 +81,5 @@ loop-next-preserved c = let a = c.args in
     let w = c.next_stride-runs in (
       omega (arith, c.if-most-k.false, g.invariant.0),
       stepping_over a.own.now m.new.mine a.index.now a.n m.new.cursors g.mine g.cursors (as_maybe g.next) g.k
-          g.invariant.1 (as_run c.in-Here.x) (ap as_maybe c.in-Here.is) w.new.mine w.new.cursors w.result w.ensures,
+          g.invariant.1 (as_run c.in-Some.x) (ap as_maybe c.in-Some.is) w.new.mine w.new.cursors w.result w.ensures,
     )

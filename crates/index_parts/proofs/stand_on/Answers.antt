@@ -35,7 +35,7 @@ pass_shared-more-requires c =
     let a = c.args in
     let m = c.next_stands-found in
     let w = subst (StandsNext a.own.now a.mine.now m.new.mine a.index.now a.n a.cursors.now m.new.cursors
-    (as_place a.spot.place) a.spot.pos) (ap as_maybe c.in-Here.is) m.ensures in record {
+    (as_place a.spot.place) a.spot.pos) (ap as_maybe c.in-Some.is) m.ensures in record {
       sources = (w.0.ready, w.0.own_ready);
       room = omega (
         arith,
@@ -61,11 +61,11 @@ returns c =
     let m = c.next_stands-found in
     let w = subst (StandsNext a.own.now a.mine.now m.new.mine a.index.now a.n a.cursors.now m.new.cursors
     (as_place a.spot.place) a.spot.pos)
-    (ap as_maybe c.in-Here.is) m.ensures in
+    (ap as_maybe c.in-Some.is) m.ensures in
     let s = c.pass_shared-more in
     stood_over a.own.now a.mine.now m.new.mine a.index.now a.n a.cursors.now m.new.cursors s.new.cursors a.spot
     _ c.spot_after.result
-    (as_run c.in-Here.x) s.result w.0 refl refl
+    (as_run c.in-Some.x) s.result w.0 refl refl
     (omega (
       arith,
       c.requires.room.0.0,

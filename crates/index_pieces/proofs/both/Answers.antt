@@ -8,8 +8,8 @@ returns-in_default c = rw c.in_default.is
 
 pub returns-in_default-y : goal.returns-in_default-y
 unfolding both as_maybe
-returns-in_default-y c = rw (c.in-Here.is, c.in_default-y.is)
+returns-in_default-y c = rw (c.in-Some.is, c.in_default-y.is)
 
 pub returns : goal.returns
 unfolding both as_maybe
-returns c = rw (c.in-Here.is, c.in-Here-y.is, c.overlaid.ensures)
+returns c = rw (c.in-Some.is, c.in-Some-y.is, c.overlaid.ensures)

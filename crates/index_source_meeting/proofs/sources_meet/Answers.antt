@@ -62,26 +62,19 @@ bounds-ahead-k-in-loop-k c = simp length-set
       c.loop-k-test.true,
     ))
 
-pub overflow_add-k-in-loop-k : goal.overflow_add-k-in-loop-k
-overflow_add-k-in-loop-k c = omega (
-  arith,
-  c.loop-k-test.true,
-  c.ranges.n,
-)
-
 pub loop-k-preserved : goal.loop-k-preserved
 unfolding source cursor_at cursor_left SourceMet
 loop-k-preserved c = let s = subst (SourceMet
     (run_from (drop c.args.pos c.args.index.now)) c.args.words.now (get_or c.args.cursors.now (2 * c.loop-k.k) 0)
-    (get_or c.args.cursors.now (2 * c.loop-k.k + 1) 0)) c.in-Met.is
+    (get_or c.args.cursors.now (2 * c.loop-k.k + 1) 0)) c.in-Some.is
     c.source_meets-met.ensures in (
       omega (arith, c.loop-k-test.true),
       (
         length-set (set c.loop-k.ahead
-            (2 * c.loop-k.k) c.in-Met.m.at)
-            (2 * c.loop-k.k + 1) c.in-Met.m.left
+            (2 * c.loop-k.k) c.in-Some.m.at)
+            (2 * c.loop-k.k + 1) c.in-Some.m.left
             ∙ length-set c.loop-k.ahead
-            (2 * c.loop-k.k) c.in-Met.m.at ∙ c.loop-k.invariant.1.0,
+            (2 * c.loop-k.k) c.in-Some.m.at ∙ c.loop-k.invariant.1.0,
         λ h. rw (c.union-votes.ensures, c.union-after.ensures)
             (going_on (run_from (drop c.args.pos c.args.index.now)) c.args.words.now
             c.args.cursors.now c.loop-k.ahead
@@ -94,9 +87,9 @@ loop-k-preserved c = let s = subst (SourceMet
               c.loop-k.invariant.1.0,
               c.requires.0.room,
               c.loop-k-test.true,
-            )) c.in-Met.m.at
-            c.in-Met.m.left c.in-Met.m.votes
-            c.in-Met.m.after s.0
+            )) c.in-Some.m.at
+            c.in-Some.m.left c.in-Some.m.votes
+            c.in-Some.m.after s.0
             (s.1 h (c.requires.0.chains c.loop-k.k
             c.loop-k-test.true))),
       ),

@@ -10,6 +10,3 @@ invariant-loop-k l = (l.k ≤ l.n) ×
     ((length l.ahead ≡ length l.cursors) ×
     ((run_from (drop l.pos l.index)).start < (run_from (drop l.pos l.index)).end
     → Going (run_from (drop l.pos l.index)) l.words l.cursors l.ahead l.k l.votes l.after))
-
-abbrev pub decreases-loop-k : goal.decreases-loop-k
-decreases-loop-k l = l.n - l.k

@@ -6,6 +6,3 @@ use Rattle.index_strides.proofs.copy_on.Given as goal
 
 abbrev pub invariant-loop-i : goal.invariant-loop-i
 invariant-loop-i l = (l.i ≤ l.count) × (l.index ≡ sets l.initial.index l.to (take l.i (drop l.from l.initial.index)))
-
-abbrev pub decreases-loop-i : goal.decreases-loop-i
-decreases-loop-i l = l.count - l.i

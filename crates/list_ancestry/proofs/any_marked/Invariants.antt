@@ -7,6 +7,3 @@ use Rattle.list_ancestry.proofs.any_marked.Given as goal
 
 abbrev pub invariant-loop-k : goal.invariant-loop-k
 invariant-loop-k l = (l.k ≤ l.n) × ((j : ℕ) → j < l.k → eqb (get_or l.own j 0) 1 ≡ false)
-
-abbrev pub decreases-loop-k : goal.decreases-loop-k
-decreases-loop-k l = l.n - l.k

@@ -12,6 +12,3 @@ abbrev pub invariant-loop-k : goal.invariant-loop-k
 invariant-loop-k l = Going l.order l.memo l.k ×
     ((rejecting : Bool) (who : TransactionLocator) → Owned rejecting l.store l.order who l.own → HeardBelow (speech_of rejecting) l.store l.order who
     l.memo l.k × SaidBefore (speech_of rejecting) l.store l.order who l.k l.below)
-
-abbrev pub decreases-loop-k : goal.decreases-loop-k
-decreases-loop-k l = length l.order - l.k

@@ -1,5 +1,5 @@
 use mathlib.Core.Path.{sym, ◌∙◌}
-use Rattle.list_after.specs.Answers.{as_maybe}
+use Rattle.types.specs.Values.{as_maybe}
 use Rattle.list_row_sort.specs.Rows.{key_of}
 use Rattle.list_range_rows.specs.Ranges.{new_row}
 use Rattle.list_block_edges.proofs.Taking.{before_window, after_window, in_window_lem, edge_left, edge_put}

@@ -4,7 +4,7 @@ use Rattle.list_edge_rows.specs.Edges.{start_edge, end_edge}
 use Prim.Native.Nat.{ℕ}
 use mathlib.Core.Path.{◌≡◌, subst}
 use native.Mathlib.Omega.{arith}
-use Rattle.list_after.specs.Answers.{as_maybe}
+use Rattle.types.specs.Values.{as_maybe}
 use Rattle.list_block_edges.specs.Taken.{EdgesTaken}
 use Rattle.list_block_edges.proofs.Taking.{taken_start, taken_more}
 use Rattle.list_block_edges.proofs.take_edges.Goals as goal

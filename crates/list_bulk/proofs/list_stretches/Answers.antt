@@ -5,7 +5,7 @@ use Rattle.final_readings_spec.specs.Answers.{as_reading}
 use Rattle.list_readings_spec.specs.Answers.{is_ordinary}
 use Rattle.list_readings_spec.specs.Lists.{listing}
 use Rattle.final_block_votes.proofs.Along.{sorted_count}
-use Rattle.list_after.specs.Answers.{as_maybe}
+use Rattle.types.specs.Values.{as_maybe}
 use Rattle.final_spec.specs.Finality.{blocks_of}
 use Rattle.store_spec.proofs.Check.{order_laid}
 use Rattle.store_spec.specs.Store.{store_in_order}
@@ -28,13 +28,13 @@ returns-in_default c = let a = c.args in
 
 pub in_order-requires : goal.in_order-requires
 in_order-requires c = (taken_sound c.args.stakes.now
-    c.in-Taken.total (ap as_new_committee (sym c.in-Taken.is) ∙ c.new_committee.ensures)).0
+    c.in-Ok.total (ap as_new_committee (sym c.in-Ok.is) ∙ c.new_committee.ensures)).0
 
 pub returns-then-not-in_order : goal.returns-then-not-in_order
 unfolding as_stretches
 returns-then-not-in_order c = let a = c.args in
     let k = listing (is_ordinary a.list) (as_reading a.reading) a.stakes.now (blocks_of a.store.now) in
-    let t = taken_sound a.stakes.now c.in-Taken.total (ap as_new_committee (sym c.in-Taken.is) ∙ c.new_committee.ensures) in
+    let t = taken_sound a.stakes.now c.in-Ok.total (ap as_new_committee (sym c.in-Ok.is) ∙ c.new_committee.ensures) in
     let e = bulk_disordered a.stakes.now a.store.now k a.out.now (as_maybe a.after) t.0
     (sym c.in_order.ensures ∙ c.if-not-in_order.true) in
     record { result_value = ap (λ (x : AskedBulk). x.answer) e; out_after = ap (λ (x : AskedBulk). x.out) e }
@@ -52,7 +52,7 @@ slice_bounds-fill_stretches-end c = let a = c.args in
 pub fill_stretches-requires : goal.fill_stretches-requires
 fill_stretches-requires c = let a = c.args in
     let k = listing (is_ordinary a.list) (as_reading a.reading) a.stakes.now (blocks_of a.store.now) in
-    let t = taken_sound a.stakes.now c.in-Taken.total (ap as_new_committee (sym c.in-Taken.is) ∙ c.new_committee.ensures) in
+    let t = taken_sound a.stakes.now c.in-Ok.total (ap as_new_committee (sym c.in-Ok.is) ∙ c.new_committee.ensures) in
     let o : store_in_order a.stakes.now a.store.now ≡ true = sym c.in_order.ensures ∙ c.if-not-in_order.false in
     let q = c.sorted_positions-count.ensures in
     let n = ap length q.1.1 ∙ sorted_count a.store.now (order_laid a.stakes.now a.store.now o) in
@@ -61,7 +61,7 @@ fill_stretches-requires c = let a = c.args in
 pub returns : goal.returns
 returns c = let a = c.args in
     let k = listing (is_ordinary a.list) (as_reading a.reading) a.stakes.now (blocks_of a.store.now) in
-    let t = taken_sound a.stakes.now c.in-Taken.total (ap as_new_committee (sym c.in-Taken.is) ∙ c.new_committee.ensures) in
+    let t = taken_sound a.stakes.now c.in-Ok.total (ap as_new_committee (sym c.in-Ok.is) ∙ c.new_committee.ensures) in
     let o : store_in_order a.stakes.now a.store.now ≡ true = sym
     c.in_order.ensures ∙ c.if-not-in_order.false in
     let q = c.fill_stretches.ensures in

@@ -1,5 +1,5 @@
 use mathlib.Core.Path.{ap, ◌∙◌}
-use Rattle.list_after.specs.Answers.{as_maybe}
+use Rattle.types.specs.Values.{as_maybe}
 use Rattle.list_stretches_spec.specs.Bulk.{AskedBulk}
 use Rattle.list_bulk.proofs.Asking.{old_finals}
 use Rattle.final_readings_spec.specs.Answers.{as_reading}

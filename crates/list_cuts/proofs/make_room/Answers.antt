@@ -1,7 +1,7 @@
 use Prim.Native.Nat.{◌/◌}
 use native.Mathlib.Omega.{arith}
 use Rattle.list_row_sort.specs.Rows.{Inside}
-use Rattle.list_after.specs.Answers.{as_maybe}
+use Rattle.types.specs.Values.{as_maybe}
 use Rattle.list_cuts.specs.Room.{Shorter}
 use Rattle.list_cuts.proofs.Room.{sorted_cuttable, room_cut, cut_fits}
 use borrow.Author.Rules.{rules}

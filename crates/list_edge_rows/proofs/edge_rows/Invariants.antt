@@ -4,6 +4,3 @@ use Rattle.list_edge_rows.proofs.edge_rows.Given as goal
 
 abbrev pub invariant-loop-i : goal.invariant-loop-i
 invariant-loop-i l = (l.i ≤ l.m) × Edged l.rows l.initial.edges l.edges l.i l.place l.n l.k
-
-abbrev pub decreases-loop-i : goal.decreases-loop-i
-decreases-loop-i l = l.m - l.i

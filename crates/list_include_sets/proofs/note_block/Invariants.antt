@@ -4,6 +4,3 @@ use Rattle.list_include_sets.proofs.note_block.Given as goal
 
 abbrev pub invariant-loop-j : goal.invariant-loop-j
 invariant-loop-j l = (l.j ≤ l.count) × NotedRow l.store l.order l.k l.j l.initial.sets l.sets
-
-abbrev pub decreases-loop-j : goal.decreases-loop-j
-decreases-loop-j l = l.count - l.j

@@ -58,13 +58,6 @@ bounds-sets-k c = omega (
   c.requires.1.0,
 )
 
-pub overflow_add-k : goal.overflow_add-k
-overflow_add-k c = omega (
-  arith,
-  c.loop-k-test.true,
-  c.requires.0.1,
-)
-
 pub loop-k-smaller : goal.loop-k-smaller
 loop-k-smaller c = omega (arith, c.loop-k-test.true)
 

@@ -5,6 +5,3 @@ use Rattle.list_include_sets.proofs.note_includes.Given as goal
 
 abbrev pub invariant-loop-k : goal.invariant-loop-k
 invariant-loop-k l = Noting l.store l.order l.initial.sets l.sets l.k
-
-abbrev pub decreases-loop-k : goal.decreases-loop-k
-decreases-loop-k l = length l.order - l.k

@@ -11,13 +11,13 @@ use Rattle.record_spec.specs.Record.{block_in, no_statement}
 use Rattle.types.specs.Values.{as_range}
 use Rattle.record_cursor.specs.Cursor.{cursor_at}
 use Rattle.record_cursor.specs.declared.StatementCursor.{StatementCursor}
-use Rattle.record_statement_votes.specs.declared.VotedRange.TheVariants.{Nothing}
 use Rattle.list_block_spans.specs.Ranges.{reject_ranges}
 use Rattle.list_block_spans.proofs.Joining.{voted_ranges}
 use Rattle.list_block_spans.proofs.Fits.{vote_inside}
 use Rattle.list_kind_ranges.proofs.Positions.{kind_inside}
 use Rattle.list_kind_ranges.proofs.Next.{reject_next, vote_next, none_next, shares_next}
 use Rattle.list_kind_ranges.proofs.next_range.Goals as goal
+use Rattle.std.specs.Prelude.{None}
 
 pub overflow_add-at : goal.overflow_add-at
 unfolding cursor_at
@@ -69,7 +69,7 @@ returns-then-is_shares c = let o = c in
     let e : is_share (get_or b.statements o.args.cursor.index no_statement) ≡ false = rw (← s.0)
     (sym (c.is_share.ensures r) ∙ c.if-is_share.false) in
     none_next r (bytes_of r (λ j h. omega (arith, c.shared_slice_known-1.given j)))
-    o.requires.0.0 o.args.cursor.index o.requires.1.1.1 Nothing o.args.cursor.at
+    o.requires.0.0 o.args.cursor.index o.requires.1.1.1 None o.args.cursor.at
     c.next_statement-found.result.next
     (ap (λ (x : StatementCursor). x.at) o.requires.1.1.0) s.1.0 o.args.kind (sym c.is_shares.ensures ∙ c.if-is_shares.true) e refl
 

@@ -12,26 +12,26 @@ pub loop-k-init : goal.loop-k-init
 unfolding MarkedIn
 loop-k-init c = (omega arith, λ k h e. absurd (omega arith))
 
-pub bounds-marks-i : goal.bounds-marks-i
-bounds-marks-i c = omega (
+pub bounds-marks-k : goal.bounds-marks-k
+bounds-marks-k c = omega (
   arith,
   c.loop-k-test.true,
   c.requires.1.0,
   c.requires.1.1,
 )
 
-pub loop-k-smaller-then-marks-i-ne1 : goal.loop-k-smaller-then-marks-i-ne1
-loop-k-smaller-then-marks-i-ne1 c = omega (arith, c.loop-k-test.true)
+pub loop-k-smaller-then-marks-k-ne1 : goal.loop-k-smaller-then-marks-k-ne1
+loop-k-smaller-then-marks-k-ne1 c = omega (arith, c.loop-k-test.true)
 
-pub loop-k-preserved-then-marks-i-ne1 : goal.loop-k-preserved-then-marks-i-ne1
-loop-k-preserved-then-marks-i-ne1 c = let a = c.args in (
+pub loop-k-preserved-then-marks-k-ne1 : goal.loop-k-preserved-then-marks-k-ne1
+loop-k-preserved-then-marks-k-ne1 c = let a = c.args in (
   omega (arith, c.loop-k-test.true),
   marked_in_none a.store.now a.order.now a.marks.now c.loop-k.k
-      c.loop-k.authors c.loop-k.invariant.1 (ne_eqb _ 1 c.if-marks-i-ne1.true),
+      c.loop-k.authors c.loop-k.invariant.1 (ne_eqb _ 1 c.if-marks-k-ne1.true),
 )
 
-pub bounds-order-i : goal.bounds-order-i
-bounds-order-i c = omega (arith, c.loop-k-test.true)
+pub bounds-order-k : goal.bounds-order-k
+bounds-order-k c = omega (arith, c.loop-k-test.true)
 
 pub author_at-author-requires : goal.author_at-author-requires
 author_at-author-requires c = let a = c.args in

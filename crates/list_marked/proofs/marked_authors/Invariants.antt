@@ -5,6 +5,3 @@ use Rattle.list_marked.proofs.marked_authors.Given as goal
 
 abbrev pub invariant-loop-k : goal.invariant-loop-k
 invariant-loop-k l = (l.k ≤ length l.order) × MarkedIn l.store l.order l.marks l.k l.authors
-
-abbrev pub decreases-loop-k : goal.decreases-loop-k
-decreases-loop-k l = length l.order - l.k

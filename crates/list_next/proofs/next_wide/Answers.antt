@@ -1,5 +1,5 @@
 use mathlib.Core.Path.{◌∙◌}
-use Rattle.list_after.specs.Answers.{as_maybe}
+use Rattle.types.specs.Values.{as_maybe}
 use Rattle.list_next.proofs.Asking.{old_next_wide}
 use Rattle.final_readings_spec.specs.Answers.{as_reading}
 use Rattle.list_readings_spec.specs.Answers.{is_ordinary}

@@ -1,5 +1,5 @@
 use Rattle.final_spec.specs.NextFinal.{is_after}
-use Rattle.list_after.specs.Answers.{as_maybe}
+use Rattle.types.specs.Values.{as_maybe}
 use borrow.Author.Rules.{rules}
 use Rattle.list_order.proofs.follows.Goals as goal
 
@@ -9,4 +9,4 @@ returns-in_default c = rw c.in_default.is
 
 pub returns : goal.returns
 unfolding is_after as_maybe
-returns c = rw c.in-Locator.is c.comes_after.ensures
+returns c = rw c.in-Some.is c.comes_after.ensures

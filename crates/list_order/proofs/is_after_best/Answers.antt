@@ -1,7 +1,7 @@
 use Rattle.base.specs.Lists.{is_none}
 use Rattle.final_spec.specs.NextFinal.{is_after}
 use Rattle.list_order.specs.Row.{is_after_best}
-use Rattle.list_after.specs.Answers.{as_maybe}
+use Rattle.types.specs.Values.{as_maybe}
 use borrow.Author.Rules.{rules}
 use Rattle.list_order.proofs.is_after_best.Goals as goal
 
@@ -11,4 +11,4 @@ returns-in_default c = rw c.in_default.is
 
 pub returns : goal.returns
 unfolding is_after_best is_none is_after as_maybe
-returns c = rw c.in-Locator.is c.comes_after.ensures
+returns c = rw c.in-Some.is c.comes_after.ensures

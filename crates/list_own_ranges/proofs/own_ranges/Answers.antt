@@ -1,5 +1,5 @@
 use Rattle.record_spec.specs.Record.{block_in}
-use Rattle.list_after.specs.Answers.{as_maybe}
+use Rattle.types.specs.Values.{as_maybe}
 use Rattle.list_own_ranges.proofs.Rows.{sortable, joinable, own_of}
 use Rattle.list_own_ranges.proofs.own_ranges.Goals as goal
 

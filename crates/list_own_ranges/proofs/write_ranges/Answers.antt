@@ -5,7 +5,7 @@ use lib.ListN.{length}
 use Rattle.record_spec.specs.Record.{block_in}
 use Rattle.record_cursor.specs.Cursor.{cursor_at}
 use Rattle.list_block_spans.specs.Answers.{OnwardIn}
-use Rattle.list_after.specs.Answers.{as_maybe}
+use Rattle.types.specs.Values.{as_maybe}
 use Rattle.list_own_ranges.specs.Own.{Roomy}
 use Rattle.list_own_ranges.specs.Step.{Written}
 use Rattle.list_own_ranges.proofs.Stored.{record-inside, all_later}

@@ -3,7 +3,7 @@ use mathlib.Core.Path.{◌≡◌}
 use lib.ListN.{length}
 use Rattle.record_spec.specs.Record.{block_in}
 use Rattle.record_cursor.specs.Cursor.{cursor_at}
-use Rattle.list_after.specs.Answers.{as_maybe}
+use Rattle.types.specs.Values.{as_maybe}
 use Rattle.list_own_ranges.specs.Step.{Written}
 use Rattle.list_own_ranges.proofs.write_ranges.Given as goal
 

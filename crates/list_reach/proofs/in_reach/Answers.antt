@@ -4,9 +4,8 @@ use mathlib.Core.Option.{none}
 use native.Mathlib.Omega.{arith}
 use Rattle.base.specs.Lists.{is_none}
 use Rattle.record_spec.specs.Reference.{locator, new_range}
-use Rattle.types.specs.Values.{as_locator, as_range}
+use Rattle.types.specs.Values.{as_locator, as_range, as_maybe}
 use Rattle.final_spec.specs.NextFinal.{is_after}
-use Rattle.list_after.specs.Answers.{as_maybe}
 use Rattle.list_order.specs.Row.{is_after_best}
 use Rattle.list_reach.proofs.Reach.{reach_empty, reach_ended, reach_left}
 use borrow.Author.Rules.{rules}
@@ -31,6 +30,6 @@ returns-in_default c = let a = c.args in
 pub returns : goal.returns
 unfolding as_range new_range as_locator locator as_maybe is_after_best is_none is_after
 returns c = let a = c.args in
-    rw c.in-Locator.is (ap not c.locator_before.ensures ∙ sym
+    rw c.in-Some.is (ap not c.locator_before.ensures ∙ sym
     (reach_left (as_maybe a.last) _ (as_range a.range) (omega (arith, c.if-end-start.false))
     (sym c.is_after.ensures ∙ c.if-not-is_after.false)))

@@ -85,7 +85,7 @@ returns-in_default-shown c = let o = c in
     let a = o.args in
     let l = c.loop-stop in
     let m = subst (Moved (lane_ranges a.course.wanted a.store.now a.order.now) a.store.now l.marks _ _ (some (as_locator l.at.here)))
-    c.in-At.is
+    c.in-Some.is
     c.advance-next.ensures in
     record {
       stands = m.stands;
@@ -124,9 +124,9 @@ returns-then-not-same_words c = let o = c in
     let a = o.args in
     let l = c.loop-stop in
     let m = subst (Moved (lane_ranges a.course.wanted a.store.now a.order.now) a.store.now l.marks _ _ (some (as_locator l.at.here)))
-    c.in-At.is
+    c.in-Some.is
     c.advance-next.ensures in
-    let all = subst (ShownAll a.course.wanted a.stakes.now a.store.now a.order.now _ _) c.in-Shown.is
+    let all = subst (ShownAll a.course.wanted a.stakes.now a.store.now a.order.now _ _) c.in-Some-shown.is
     c.shown_marks-shown.ensures in
     let different = subst (SameWords a.certified.now _ (length a.order.now)) (c.if-not-same_words.true)
     c.same_words.ensures in
@@ -149,7 +149,7 @@ loop-stop-smaller c = let o = c in
     let a = o.args in
     let l = c.loop-stop in
     let m = subst (Moved (lane_ranges a.course.wanted a.store.now a.order.now) a.store.now l.marks _ _ (some (as_locator l.at.here)))
-    c.in-At.is
+    c.in-Some.is
     c.advance-next.ensures in
     fewer_follow (as_locator l.at.here) _ (edge_locators (lane_ranges a.course.wanted a.store.now a.order.now)) m.ahead m.edge
 
@@ -159,9 +159,9 @@ loop-stop-preserved c = let o = c in
     let a = o.args in
     let l = c.loop-stop in
     let m = subst (Moved (lane_ranges a.course.wanted a.store.now a.order.now) a.store.now l.marks _ _ (some (as_locator l.at.here)))
-    c.in-At.is
+    c.in-Some.is
     c.advance-next.ensures in
-    let all = subst (ShownAll a.course.wanted a.stakes.now a.store.now a.order.now _ _) c.in-Shown.is
+    let all = subst (ShownAll a.course.wanted a.stakes.now a.store.now a.order.now _ _) c.in-Some-shown.is
     c.shown_marks-shown.ensures in
     let same = subst (SameWords a.certified.now _ (length a.order.now)) (c.if-not-same_words.false)
     c.same_words.ensures in

@@ -5,7 +5,7 @@ use lib.ListN.{length-replicate}
 use Rattle.base.proofs.Le.{bytes_of}
 use Rattle.base.proofs.Lists.{zeros_at}
 use Rattle.final_block_votes.proofs.Sorting.{some_committee}
-use Rattle.list_after.specs.Answers.{as_maybe}
+use Rattle.types.specs.Values.{as_maybe}
 use Rattle.list_stretch_bytes.specs.Answers.{as_stretches}
 use Rattle.list_lanes.specs.Lanes.{lane_ranges}
 use Rattle.list_sweep_start.specs.Begin.{Begun}
@@ -44,7 +44,7 @@ unfolding Begun
 fill_from-requires c = let o = c in
     let a = o.args in
     let b = subst (Begun (lane_ranges a.wanted a.store.now a.order.now) a.store.now _ _ (as_maybe a.after))
-    c.in-At.is c.begin-begun.ensures in (
+    c.in-Some.is c.begin-begun.ensures in (
       lent_new a.stakes.now a.total a.store.now a.order.now a.sets.now o.requires.0 o.requires.1 _ _
           (c.begin-begun.auto.edges ∙ length-replicate {A = ℕ} 16386 0)
           (c.begin-begun.auto.marks ∙ length-replicate {A = ℕ} 3072 0),
@@ -60,7 +60,7 @@ returns c = named_result_value_out_after (let o = c in
       c.shared_slice_known-2-1.given j,
     )) in
     let b = subst (Begun (lane_ranges a.wanted a.store.now a.order.now) a.store.now _ _ (as_maybe a.after))
-    c.in-At.is
+    c.in-Some.is
     c.begin-begun.ensures in
     c.fill_from.ensures (as_maybe a.after)
     (begun_reaching a.wanted a.stakes.now a.store.now a.order.now (some_committee o.requires.0.0.0) o.requires.0.1 (as_maybe a.after) _

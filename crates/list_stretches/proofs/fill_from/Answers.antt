@@ -71,7 +71,7 @@ returns-then-n-room c = let o = c in
     let a = o.args in
     let l = c.loop-f in
     let f = subst (NextFound a.course.wanted a.stakes.now a.store.now a.order.now (as_locator l.sweep.here) _ _ _)
-    c.in-At.is c.next_shown-next.ensures in
+    c.in-Some.is c.next_shown-next.ensures in
     done_more a.course.wanted a.stakes.now a.store.now a.out.now (as_locator a.course.sweep.here) (as_locator l.sweep.here) l.out
     l.n l.invariant.1.1.1.1 _ f.is c.if-n-room.true
 
@@ -89,7 +89,7 @@ run_on-sweep-requires c = let o = c in
     let a = o.args in
     let l = c.loop-f in
     let f = subst (NextFound a.course.wanted a.stakes.now a.store.now a.order.now (as_locator l.sweep.here) _ _ _)
-    c.in-At.is
+    c.in-Some.is
     c.next_shown-next.ensures in (
       lent_for a.stakes.now a.course.total a.store.now a.order.now a.sets.now a.edges.now _ a.marks.now _ o.requires.0
           (c.next_shown-next.auto.edges ∙ l.invariant.0) (c.next_shown-next.auto.marks ∙ l.invariant.1.0.0) _
@@ -129,7 +129,7 @@ loop-f-preserved c = let o = c in
     let a = o.args in
     let l = c.loop-f in
     let f = subst (NextFound a.course.wanted a.stakes.now a.store.now a.order.now (as_locator l.sweep.here) _ _ _)
-    c.in-At.is c.next_shown-next.ensures in
+    c.in-Some.is c.next_shown-next.ensures in
     let r = c.run_on-sweep.ensures in
     let wr = c.write_stretch.ensures in (
       c.run_on-sweep.auto.edges ∙ c.next_shown-next.auto.edges ∙ l.invariant.0,
@@ -156,7 +156,7 @@ loop-f-preserved c = let o = c in
                   arith,
                   l.invariant.1.1.0.0,
                   c.if-n-room.false,
-                )) c.in-At.f.found f.right.0
+                )) c.in-Some.f.found f.right.0
                 (as_locator c.run_on-sweep.result.here) r.ends
                 c.run_on-sweep.result.here.offset
                 c.stake_of-stake.result.0

@@ -1,7 +1,6 @@
 use mathlib.Core.Path.{ap}
 use native.Mathlib.Omega.{arith}
-use Rattle.types.specs.Values.{as_locator}
-use Rattle.list_after.specs.Answers.{as_maybe}
+use Rattle.types.specs.Values.{as_locator, as_maybe}
 use Rattle.list_lanes.specs.Lanes.{lane_ranges}
 use Rattle.list_sweep.specs.Step.{Gone, Moved}
 use Rattle.list_sweep.proofs.Sweeping.{stop_ready, stop_moved, all_passed, renewed, none_whole}
@@ -20,26 +19,27 @@ returns-then-at-window c = λ here st.
     stop_moved (lane_ranges a.wanted a.store.now a.order.now) a.store.now a.edges.now a.marks.now a.window a.at here st
     c.if-at-window.true _ c.pass_stop-sweep.result c.pass_stop-sweep.ensures
 
-pub returns-in_default : goal.returns-in_default
+pub returns-in_err-last : goal.returns-in_err-last
 unfolding Gone Moved as_maybe
-returns-in_default c = λ here st.
+returns-in_err-last c = λ here st.
     let a = c.args in
-    all_passed (lane_ranges a.wanted a.store.now a.order.now) a.store.now a.edges.now a.marks.now a.window a.at here st
-    c.if-at-window.false (ap as_maybe c.in_default.is)
+    rw c.from_residual.ensures
+    (all_passed (lane_ranges a.wanted a.store.now a.order.now) a.store.now a.edges.now a.marks.now a.window a.at here st
+    c.if-at-window.false (ap as_maybe c.in_err-last.was))
 
 pub returns-then-next-eq0 : goal.returns-then-next-eq0
 unfolding Gone Moved as_maybe
 returns-then-next-eq0 c = λ here st.
     let a = c.args in
     let whole = none_whole (lane_ranges a.wanted a.store.now a.order.now) a.store.now a.edges.now a.marks.now a.window a.at here
-    st (as_locator c.in-Locator.field-0)
-    (ap as_maybe c.in-Locator.is)
+    st (as_locator c.in_ok-last.field-0)
+    (ap as_maybe c.in_ok-last.was)
     c.if-at-window.false _ c.gather-next.result
     c.gather-next.ensures c.if-next-eq0.true in
     all_passed (lane_ranges a.wanted a.store.now a.order.now) a.store.now _ a.marks.now c.gather-next.result
     0 here (renewed (lane_ranges a.wanted a.store.now a.order.now) a.store.now a.edges.now a.marks.now a.window a.at here st
-    (as_locator c.in-Locator.field-0)
-    (ap as_maybe c.in-Locator.is)
+    (as_locator c.in_ok-last.field-0)
+    (ap as_maybe c.in_ok-last.was)
     c.if-at-window.false _ c.gather-next.result
     c.gather-next.ensures) (omega (arith, c.if-next-eq0.true)) whole
 
@@ -52,8 +52,8 @@ pass_stop-sweep-requires-2 c = let a = c.args in
     stop_ready (lane_ranges a.wanted a.store.now a.order.now) a.store.now _ a.marks.now
     c.gather-next.result 0 here
     (renewed (lane_ranges a.wanted a.store.now a.order.now) a.store.now a.edges.now a.marks.now a.window a.at here st
-    (as_locator c.in-Locator.field-0)
-    (ap as_maybe c.in-Locator.is)
+    (as_locator c.in_ok-last.field-0)
+    (ap as_maybe c.in_ok-last.was)
     c.if-at-window.false _
     c.gather-next.result c.gather-next.ensures) p.0.long
     (omega (arith, c.if-next-eq0.false))
@@ -65,8 +65,8 @@ returns c = λ here st.
     stop_moved (lane_ranges a.wanted a.store.now a.order.now) a.store.now _ a.marks.now
     c.gather-next.result 0 here
     (renewed (lane_ranges a.wanted a.store.now a.order.now) a.store.now a.edges.now a.marks.now a.window a.at here st
-    (as_locator c.in-Locator.field-0)
-    (ap as_maybe c.in-Locator.is)
+    (as_locator c.in_ok-last.field-0)
+    (ap as_maybe c.in_ok-last.was)
     c.if-at-window.false _
     c.gather-next.result
     c.gather-next.ensures)

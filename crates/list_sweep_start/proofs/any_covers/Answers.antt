@@ -3,9 +3,8 @@ use mathlib.Core.Bool.{true, false}
 use mathlib.Core.Option.{Option}
 use native.Mathlib.Omega.{arith}
 use Rattle.record_spec.specs.Reference.{TransactionLocator}
-use Rattle.types.specs.Values.{as_locator}
+use Rattle.types.specs.Values.{as_locator, as_maybe}
 use Rattle.final_spec.specs.NextFinal.{is_after}
-use Rattle.list_after.specs.Answers.{as_maybe}
 use Rattle.list_row_sort.specs.Rows.{row_at, key_of}
 use Rattle.list_row_sort.proofs.Tables.{every_row}
 use Rattle.list_range_rows.specs.Ranges.{new_row}

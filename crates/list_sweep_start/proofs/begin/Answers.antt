@@ -1,7 +1,7 @@
 use mathlib.Core.Path.{◌∙◌}
 use mathlib.Core.Option.{none}
 use native.Mathlib.Omega.{arith}
-use Rattle.list_after.specs.Answers.{as_maybe}
+use Rattle.types.specs.Values.{as_maybe}
 use Rattle.list_lanes.specs.Lanes.{lane_ranges}
 use Rattle.list_sweep.specs.Step.{Gone}
 use Rattle.list_sweep.proofs.Sweeping.{stop_ready}
@@ -42,9 +42,9 @@ returns-then-given c = let o = c in
     let a = o.args in
     let m = c.mark_lanes in
     let g = c.gather-window-2.ensures in
-    rw c.in-Locator.is
+    rw c.in-Some.is
     (given_begun (lane_ranges a.wanted a.store.now a.order.now) a.store.now _ _ c.gather-window-2.result
-    c.in-Locator.given g m.ensures
+    c.in-Some.given g m.ensures
     (m.auto.marks ∙ o.requires.0.long) c.if-given.true)
 
 pub stand_after-sweep-requires : goal.stand_after-sweep-requires
@@ -62,7 +62,7 @@ stand_after-sweep-requires c = let o = c in
           c.gather-window-2.result 0 _
           (given_standing (lane_ranges a.wanted a.store.now a.order.now) a.store.now _ _
           c.gather-window-2.result
-          c.in-Locator.given g m.ensures)
+          c.in-Some.given g m.ensures)
           (m.auto.marks ∙ o.requires.0.long) h;
     }
 
@@ -72,8 +72,8 @@ returns c = let o = c in
     let a = o.args in
     let m = c.mark_lanes in
     let g = c.gather-window-2.ensures in
-    rw c.in-Locator.is
+    rw c.in-Some.is
     (next_begun (lane_ranges a.wanted a.store.now a.order.now) a.store.now _ _
     c.gather-window-2.result
-    c.in-Locator.given g m.ensures _ c.stand_after-sweep.result c.stand_after-sweep.ensures
+    c.in-Some.given g m.ensures _ c.stand_after-sweep.result c.stand_after-sweep.ensures
     (c.stand_after-sweep.auto.marks ∙ m.auto.marks ∙ o.requires.0.long))

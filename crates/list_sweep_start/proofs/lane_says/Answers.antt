@@ -10,7 +10,7 @@ use Rattle.final_spec.proofs.Fits.{block_fits}
 use Rattle.final_block_votes.specs.Walk.{SortedStore, block_at_place}
 use Rattle.final_block_votes.proofs.Sorting.{place_entry, place_stored}
 use Rattle.list_block_spans.proofs.Fits.{votes_fit}
-use Rattle.list_after.specs.Answers.{as_maybe}
+use Rattle.types.specs.Values.{as_maybe}
 use Rattle.list_own_ranges.specs.Own.{Roomy}
 use Rattle.list_reach.proofs.Reach.{within_own}
 use Rattle.list_lanes.proofs.Lanes.{unwanted_lane, lane_past, lane_of}

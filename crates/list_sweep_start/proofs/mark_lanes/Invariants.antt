@@ -11,6 +11,3 @@ invariant-loop-k l = (l.k ≤ 3072) ×
     (((length l.rows ≡ 3072) × (length l.spare ≡ 3072))
     × ((length l.marks ≡ length l.initial.marks) × MarkedBelow (lane_ranges l.wanted l.store l.order) l.marks (as_locator l.locator)
     l.k))
-
-abbrev pub decreases-loop-k : goal.decreases-loop-k
-decreases-loop-k l = 3072 - l.k

@@ -5,6 +5,3 @@ use Rattle.list_walk.proofs.same_words.Given as goal
 
 abbrev pub invariant-loop-k : goal.invariant-loop-k
 invariant-loop-k l = (l.k ≤ l.n) × ((j : ℕ) → j < l.k → get_or l.a j 0 ≡ get_or l.b j 0)
-
-abbrev pub decreases-loop-k : goal.decreases-loop-k
-decreases-loop-k l = l.n - l.k

@@ -24,8 +24,8 @@ use Rattle.list_walk.proofs.Walking.{going_more, walking_no, walking_yes}
 use Rattle.list_walk.proofs.Beginning.{quiet_heard, quiet_said, quiet_walking}
 use Rattle.list_walk.proofs.walk.Goals as goal
 
-pub skip-k-requires : goal.skip-k-requires
-skip-k-requires c = (
+pub skip-first-requires : goal.skip-first-requires
+skip-first-requires c = (
   omega (
     arith,
     c.requires.0.0.1,
@@ -42,7 +42,7 @@ pub loop-k-init : goal.loop-k-init
 loop-k-init c = let a = c.args in
     let p = c.requires in
     let o = some_committee p.0.0.0.0 in
-    let z = c.skip-k.ensures in
+    let z = c.skip-first.ensures in
     rw (c.new-authors.ensures, c.new-below.ensures) (
       record {
         inside = z.inside;
@@ -54,12 +54,12 @@ loop-k-init c = let a = c.args in
       },
       (
         λ l w. (
-          quiet_heard a.store.now a.order.now o l a.own.now w a.sets.now p.1.0.1 c.skip-k.result z.inside
+          quiet_heard a.store.now a.order.now o l a.own.now w a.sets.now p.1.0.1 c.skip-first.result z.inside
               z.unmarked,
-          quiet_said a.store.now a.order.now o l a.own.now w a.sets.now p.1.0.1 c.skip-k.result
+          quiet_said a.store.now a.order.now o l a.own.now w a.sets.now p.1.0.1 c.skip-first.result
               z.inside z.unmarked,
         ),
-        λ reading l w q. quiet_walking a.store.now a.order.now o l a.own.now w a.sets.now p.1.0.1 c.skip-k.result
+        λ reading l w q. quiet_walking a.store.now a.order.now o l a.own.now w a.sets.now p.1.0.1 c.skip-first.result
             z.inside z.unmarked (any_noted a.rejecters.now) reading a.stakes.now a.rejecters.now q _ z.zeros,
       ),
     )
@@ -141,13 +141,6 @@ bounds-certified-k c = omega (
   c.loop-k-test.true,
   c.requires.0.0.1,
   c.loop-k.invariant.0.wide,
-)
-
-pub overflow_add-k : goal.overflow_add-k
-overflow_add-k c = omega (
-  arith,
-  c.loop-k-test.true,
-  c.requires.0.0.1,
 )
 
 pub loop-k-smaller-then-not-yes : goal.loop-k-smaller-then-not-yes

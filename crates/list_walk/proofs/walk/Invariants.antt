@@ -17,7 +17,3 @@ invariant-loop-k l =
     × SaidBefore own_vote l.store l.order loc l.k l.below)
     × ((reading : Reading) (loc : TransactionLocator) → Owned false l.store l.order loc l.own → CountedRight
     (any_noted l.rejecters) reading l.store l.order loc l.rejecters → Walking reading l.stakes l.store loc l.order l.certified l.authors l.blocks l.k))
-
-abbrev pub decreases-loop-k : goal.decreases-loop-k
-decreases-loop-k l = length
-    l.order - l.k

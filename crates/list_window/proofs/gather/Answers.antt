@@ -2,7 +2,7 @@ use Prim.Native.Nat.{ℕ, ◌-◌}
 use mathlib.Core.Path.{◌≡◌, refl, sym, subst, ◌∙◌}
 use native.Mathlib.Omega.{arith}
 use Rattle.base.proofs.Le.{bytes_of}
-use Rattle.list_after.specs.Answers.{as_maybe}
+use Rattle.types.specs.Values.{as_maybe}
 use Rattle.list_lanes.specs.Lanes.{lane_ranges}
 use Rattle.list_window.specs.Window.{Gathering}
 use Rattle.list_window.specs.Step.{NextTaken}
@@ -16,15 +16,15 @@ unfolding as_maybe
 loop-k-init c = let a = c.args in
     (omega arith, (refl, (refl, gathering_start (lane_ranges a.wanted a.store.now a.order.now) a.store.now (as_maybe a.last) a.edges.now)))
 
-pub loop-k-smaller-then-order-lane : goal.loop-k-smaller-then-order-lane
-loop-k-smaller-then-order-lane c = omega arith
+pub loop-k-smaller-then-order-k : goal.loop-k-smaller-then-order-k
+loop-k-smaller-then-order-k c = omega arith
 
-pub loop-k-preserved-then-order-lane : goal.loop-k-preserved-then-order-lane
-loop-k-preserved-then-order-lane c = let a = c.args in
+pub loop-k-preserved-then-order-k : goal.loop-k-preserved-then-order-k
+loop-k-preserved-then-order-k c = let a = c.args in
     let l = c.loop-k in
     let none : NextTaken a.store.now (lane_ranges a.wanted a.store.now a.order.now l.k) (as_maybe a.last) l.edges l.edges l.window
     l.window l.k =
-    rw (lane_past a.wanted a.store.now a.order.now l.k (omega (arith, c.if-order-lane.true)))
+    rw (lane_past a.wanted a.store.now a.order.now l.k (omega (arith, c.if-order-k.true)))
     (lane_none a.store.now (as_maybe a.last) l.edges l.window l.k) in (
       omega arith,
       (
@@ -44,7 +44,7 @@ pub next_lane-window-requires : goal.next_lane-window-requires
 next_lane-window-requires c = let o = c in
     let a = o.args in
     let l = c.loop-k in
-    let here = c.if-order-lane.false in
+    let here = c.if-order-k.false in
     let bytes = bytes_of a.store.now (λ j h. omega (arith, c.shared_slice_known-1.given j)) in (
       omega (arith, here),
       enterable (lane_ranges a.wanted a.store.now a.order.now) a.store.now (as_maybe a.last) (as_maybe l.window.bound)

@@ -3,7 +3,7 @@ use mathlib.Core.Path.{ap}
 use native.Mathlib.Omega.{arith}
 use Rattle.store_spec.specs.Entry.{block_at}
 use Rattle.store_spec.proofs.Loops.{entry_room, record-part}
-use Rattle.list_after.specs.Answers.{as_maybe}
+use Rattle.types.specs.Values.{as_maybe}
 use Rattle.list_lanes.specs.Lanes.{lane_kind}
 use Rattle.list_window.proofs.Entering.{recorded, next_more}
 use Rattle.list_window.proofs.next_block.Goals as goal

@@ -1,5 +1,5 @@
 use mathlib.Core.Path.{sym, ◌∙◌}
-use Rattle.list_after.specs.Answers.{as_maybe}
+use Rattle.types.specs.Values.{as_maybe}
 use Rattle.list_lanes.proofs.Lanes.{unwanted_lane, lane_of}
 use Rattle.list_window.proofs.Entering.{lane_none}
 use Rattle.list_window.proofs.next_lane.Goals as goal

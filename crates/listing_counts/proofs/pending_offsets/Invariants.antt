@@ -5,6 +5,3 @@ use Rattle.listing_counts.proofs.pending_offsets.Given as goal
 
 abbrev pub invariant-loop-k : goal.invariant-loop-k
 invariant-loop-k l = Summed (items_of l.table) l.k l.sum × (l.sum < 2 ^ 64)
-
-abbrev pub decreases-loop-k : goal.decreases-loop-k
-decreases-loop-k l = l.n - l.k

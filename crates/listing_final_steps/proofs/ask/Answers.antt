@@ -6,7 +6,7 @@ use Rattle.final_readings_spec.specs.Readings.{old}
 use Rattle.final_readings_spec.specs.Answers.{as_reading}
 use Rattle.list_readings_spec.specs.Answers.{is_ordinary}
 use Rattle.list_readings_spec.specs.Lists.{listing, listed_stretches}
-use Rattle.list_after.specs.Answers.{as_maybe}
+use Rattle.types.specs.Values.{as_maybe}
 use Rattle.listing_final_steps.specs.Steps.{given_in, given_by}
 use Rattle.listing_final_steps.proofs.Steps.{few_given}
 use Rattle.listing_final_steps.proofs.ask.Goals as goal

@@ -1,19 +1,17 @@
+use mathlib.Core.Path.{ap, ◌∙◌}
+use Rattle.std.specs.Prelude.{Ok}
 use Rattle.list_stretch_bytes.specs.Answers.{as_stretches}
 use Rattle.listing_final_steps.specs.Steps.{given_in, given_by}
-use borrow.Author.Rules.{rules}
 use Rattle.listing_final_steps.proofs.told.Goals as goal
 
-pub enum_told-1 : goal.enum_told-1
-enum_told-1 c = search rules
-
-pub returns-in-Last : goal.returns-in-Last
+pub returns-in-Ok-Last : goal.returns-in-Ok-Last
 unfolding as_stretches given_in given_by
-returns-in-Last c = rw c.in-Last.is
+returns-in-Ok-Last c = rw (c.in-Ok-Last.is ∙ ap Ok (rw c.in-Ok-Last.is at c.in-Ok-Last.field-0-is))
 
-pub returns-in-More : goal.returns-in-More
+pub returns-in-Ok-More : goal.returns-in-Ok-More
 unfolding as_stretches given_in given_by
-returns-in-More c = rw c.in-More.is
+returns-in-Ok-More c = rw (c.in-Ok-More.is ∙ ap Ok (rw c.in-Ok-More.is at c.in-Ok-More.field-0-is))
 
-pub returns-in-Refused : goal.returns-in-Refused
+pub returns-in-Err : goal.returns-in-Err
 unfolding as_stretches given_in given_by
-returns-in-Refused c = rw c.in-Refused.is
+returns-in-Err c = rw c.in-Err.is

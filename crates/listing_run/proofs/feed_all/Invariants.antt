@@ -6,6 +6,3 @@ abbrev pub invariant-loop-turn : goal.invariant-loop-turn
 invariant-loop-turn g l =
     ((l.fed.number ≤ l.turn + 1) × ((l.fed.accepted ≤ l.fed.number) × ((l.fed.refused ≤ l.fed.number) × (l.fed.processed ≤ 2730 * l.fed.number))))
     × FedFrom l.stakes (engine l.initial.store l.initial.table) l.store l.table
-
-abbrev pub decreases-loop-turn : goal.decreases-loop-turn
-decreases-loop-turn g l = 4503599627370494 - l.turn

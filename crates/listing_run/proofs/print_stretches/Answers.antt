@@ -13,4 +13,4 @@ loop-i-preserved g c = (
 )
 
 pub returns : goal.returns
-returns g c = λ e. counting_end _ _ _ _ c.loop-i.invariant.1 (omega (arith, c.loop-i.invariant.0, c.loop-i-test.false))
+returns g c = counting_end _ _ _ _ c.loop-i.invariant.1 (omega (arith, c.loop-i.invariant.0, c.loop-i-test.false))

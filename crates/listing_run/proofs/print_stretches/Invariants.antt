@@ -4,6 +4,3 @@ use Rattle.listing_run.proofs.print_stretches.Given as goal
 
 abbrev pub invariant-loop-i : goal.invariant-loop-i
 invariant-loop-i g l = (l.i ≤ l.n) × Counting l.stretches l.n l.i l.finals
-
-abbrev pub decreases-loop-i : goal.decreases-loop-i
-decreases-loop-i g l = l.n - l.i

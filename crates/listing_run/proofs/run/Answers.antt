@@ -6,5 +6,5 @@ use Rattle.listing_run.proofs.run.Goals as goal
 pub put_counts-n-requires : goal.put_counts-n-requires
 unfolding start
 put_counts-n-requires g c =
-    let fed = fed_start 65520 6145 c.fresh_store.ensures refl c.feed_all-records.ensures in
-    (fed_holds fed, omega (arith, c.print_list-listed.auto.out, c.feed_all-records.auto.out))
+    let fed = fed_start 65520 6145 c.fresh_store.ensures refl c.feed_all.ensures in
+    (fed_holds fed, omega (arith, c.print_list.auto.out, c.feed_all.auto.out))

@@ -7,8 +7,8 @@ use Rattle.listing_text.specs.Text.{numbers}
 use Rattle.listing_text.proofs.Text.{wrote_none, wrote_same, length_wrote, wrote_number, numbers_none, numbers_room}
 use Rattle.listing_text.proofs.put_numbers.Goals as goal
 
-pub loop-i-init : goal.loop-i-init
-loop-i-init c = (
+pub loop-number-init : goal.loop-number-init
+loop-number-init c = (
   search rules,
   wrote_same (sym (numbers_none c.args.ns.now))
       (wrote_none c.args.out.now c.args.at (omega arith)),
@@ -16,41 +16,41 @@ loop-i-init c = (
 
 pub bounds-out-to : goal.bounds-out-to
 bounds-out-to c =
-    let b = c.loop-i in
+    let b = c.loop-number in
     let ns = c.args.ns.now in
     let wrote = b.invariant.1 in
-    omega (arith, numbers_room ns b.i b.invariant.0, wrote.end, length_wrote wrote)
+    omega (arith, numbers_room ns b.number-index b.invariant.0, wrote.end, length_wrote wrote)
 
 pub overflow_add-to : goal.overflow_add-to
 overflow_add-to c =
-    let b = c.loop-i in
+    let b = c.loop-number in
     let ns = c.args.ns.now in
     let wrote = b.invariant.1 in
-    omega (arith, numbers_room ns b.i b.invariant.0, wrote.end, length_wrote wrote)
+    omega (arith, numbers_room ns b.number-index b.invariant.0, wrote.end, length_wrote wrote)
 
 pub put_decimal-to-requires : goal.put_decimal-to-requires
 put_decimal-to-requires c =
-    let b = c.loop-i in
+    let b = c.loop-number in
     let ns = c.args.ns.now in
     let wrote = b.invariant.1 in
-    simp length-set (omega (arith, numbers_room ns b.i b.invariant.0, wrote.end, length_wrote wrote))
+    simp length-set (omega (arith, numbers_room ns b.number-index b.invariant.0, wrote.end, length_wrote wrote))
 
-pub loop-i-preserved : goal.loop-i-preserved
-loop-i-preserved c =
-    let b = c.loop-i in
+pub loop-number-preserved : goal.loop-number-preserved
+loop-number-preserved c =
+    let b = c.loop-number in
     let ns = c.args.ns.now in
     let wrote = b.invariant.1 in
-    let more = c.loop-i-test.true in (
+    let more = c.loop-number-test.true in (
       search rules,
-      wrote_number ns b.i more (omega (arith, numbers_room ns b.i b.invariant.0, wrote.end, length_wrote wrote)) wrote
+      wrote_number ns b.number-index more (omega (arith, numbers_room ns b.number-index b.invariant.0, wrote.end, length_wrote wrote)) wrote
           c.put_decimal-to.ensures,
     )
 
 pub shape_of-out : goal.shape_of-out
-shape_of-out c = length_wrote c.loop-i.invariant.1
+shape_of-out c = length_wrote c.loop-number.invariant.1
 
 pub returns : goal.returns
 returns c =
-    let b = c.loop-i in
+    let b = c.loop-number in
     let ns = c.args.ns.now in
-    wrote_same (ap numbers (take_all b.i ns (omega arith))) b.invariant.1
+    wrote_same (ap numbers (take_all b.number-index ns (omega arith))) b.invariant.1

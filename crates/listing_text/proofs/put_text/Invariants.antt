@@ -6,6 +6,3 @@ use Rattle.listing_text.proofs.put_text.Given as goal
 
 abbrev pub invariant-loop-i : goal.invariant-loop-i
 invariant-loop-i l = (l.i ≤ length l.text) × ((length l.out ≡ length l.initial.out) × (l.out ≡ sets l.initial.out l.at (take l.i l.text)))
-
-abbrev pub decreases-loop-i : goal.decreases-loop-i
-decreases-loop-i l = length l.text - l.i

@@ -2,7 +2,7 @@ use mathlib.Core.Path.{refl}
 use native.Mathlib.Omega.{arith}
 use Rattle.base.proofs.Le.{bytes_of}
 use Rattle.list_readings_spec.specs.Answers.{is_ordinary}
-use Rattle.list_after.specs.Answers.{as_maybe}
+use Rattle.types.specs.Values.{as_maybe}
 use Rattle.list_shown.proofs.Reaching.{lent_for}
 use Rattle.load_along.specs.Along.{tables}
 use Rattle.load_along.proofs.Sweeping.{begun_held}

@@ -1,8 +1,7 @@
 use mathlib.Core.Path.{refl, sym, subst, ◌∙◌}
 use native.Mathlib.Omega.{arith}
-use Rattle.types.specs.Values.{as_locator, as_range}
+use Rattle.types.specs.Values.{as_locator, as_range, as_maybe}
 use Rattle.record_spec.specs.Reference.{locator, new_range}
-use Rattle.list_after.specs.Answers.{as_maybe}
 use Rattle.list_lanes.specs.Lanes.{lane_ranges}
 use Rattle.list_shown.specs.Shown.{AllAlike, NextFound}
 use Rattle.list_shown.proofs.Reaching.{here_marks, lent_for}
@@ -24,7 +23,7 @@ next_shown-next-requires c = let a = c.args in
     let h = c.requires in (
       h.1.lent _ refl,
       (held_at a.stakes.now a.store.now (tables a.order.now a.sets.now a.edges.now a.marks.now) a.along _
-          c.in-At.is h.0 h.1).0,
+          c.in-Some.is h.0 h.1).0,
     )
 
 pub returns-in_default-next : goal.returns-in_default-next
@@ -32,7 +31,7 @@ unfolding HeldAt NextFound
 returns-in_default-next c = let a = c.args in
     let n = c.next_shown-next in
     let st = held_at a.stakes.now a.store.now (tables a.order.now a.sets.now a.edges.now a.marks.now) a.along _
-    c.in-At.is
+    c.in-Some.is
     c.requires.0 c.requires.1 in
     let none_left = subst (NextFound a.along.wanted a.stakes.now a.store.now a.order.now _ _ _ _) c.in_default-next.is n.ensures
     (as_maybe a.along.after) st.1 in
@@ -57,7 +56,7 @@ unfolding NextFound
 run_on-end-requires c = let a = c.args in
     let n = c.next_shown-next in
     let f = subst (NextFound a.along.wanted a.stakes.now a.store.now a.order.now _ _ _ _)
-    c.in-At-next.is n.ensures in (
+    c.in-Some-next.is n.ensures in (
       lent_for a.stakes.now a.along.total a.store.now a.order.now a.sets.now a.edges.now _ a.marks.now _
           c.requires.1.lent n.auto.edges n.auto.marks _
           n.auto.certified,
@@ -70,12 +69,12 @@ overflow_sub-last c = let a = c.args in
     let n = c.next_shown-next in
     let r = c.run_on-end in
     let st = held_at a.stakes.now a.store.now (tables a.order.now a.sets.now a.edges.now a.marks.now) a.along _
-    c.in-At.is
+    c.in-Some.is
     c.requires.0
     c.requires.1 in
     let f = subst (NextFound a.along.wanted a.stakes.now a.store.now a.order.now _ _ _ _)
-    c.in-At-next.is n.ensures in
-    let v = c.in-At-next.f.sweep in
+    c.in-Some-next.is n.ensures in
+    let v = c.in-Some-next.f.sweep in
     let l = as_locator v.here in
     let shown = (f.alike l (here_marks (lane_ranges a.along.wanted a.store.now a.order.now) a.store.now _ _ v f.stands)).0 in
     let is = f.is (as_maybe a.along.after) st.1 in
@@ -97,12 +96,12 @@ returns c = let a = c.args in
     let n = c.next_shown-next in
     let r = c.run_on-end in
     let st = held_at a.stakes.now a.store.now (tables a.order.now a.sets.now a.edges.now a.marks.now) a.along _
-    c.in-At.is
+    c.in-Some.is
     c.requires.0
     c.requires.1 in
     let f = subst (NextFound a.along.wanted a.stakes.now a.store.now a.order.now _ _ _ _)
-    c.in-At-next.is n.ensures in
-    let v = c.in-At-next.f.sweep in
+    c.in-Some-next.is n.ensures in
+    let v = c.in-Some-next.f.sweep in
     let l = as_locator v.here in
     let shown = (f.alike l (here_marks (lane_ranges a.along.wanted a.store.now a.order.now) a.store.now _ _ v f.stands)).0 in
     let is = f.is (as_maybe a.along.after) st.1 in

@@ -39,10 +39,10 @@ place_of-place-requires c =
     let o = c.requires.1 in
     let l = as_locator a.locator in
     let bytes = bytes_of a.store.now (λ j h. omega (arith, c.shared_slice_known-1.given j)) in
-    let start = c.in-Payload.start in
-    let count = c.in-Payload.len in
+    let start = c.in-Some.start in
+    let count = c.in-Some.len in
     let t : StoreStretch = record { start = start; count = count } in
-    let held : payload_at a.store.now l ≡ some t = sym c.stored_payload.ensures.result_value ∙ ap as_share c.in-Payload.is in (
+    let held : payload_at a.store.now l ≡ some t = sym c.stored_payload.ensures.result_value ∙ ap as_share c.in-Some.is in (
       c.requires,
       share_block a.store.now l
           (looked_stored a.store.now bytes l t held c.requires.0 o.in_order),
@@ -51,18 +51,18 @@ place_of-place-requires c =
 pub overflow_add-end : goal.overflow_add-end
 unfolding share_within
 overflow_add-end c =
-    let inside = rw c.in-Payload.is at c.stored_payload.ensures.result_value_2 in
-    omega (arith, leb-true (c.in-Payload.start + c.in-Payload.len) _ inside)
+    let inside = rw c.in-Some.is at c.stored_payload.ensures.result_value_2 in
+    omega (arith, leb-true (c.in-Some.start + c.in-Some.len) _ inside)
 
 pub slice_bounds-needed_by-end : goal.slice_bounds-needed_by-end
 unfolding share_within
 slice_bounds-needed_by-end c =
-    let inside = rw c.in-Payload.is at c.stored_payload.ensures.result_value_2 in
-    omega (arith, leb-true (c.in-Payload.start + c.in-Payload.len) _ inside)
+    let inside = rw c.in-Some.is at c.stored_payload.ensures.result_value_2 in
+    omega (arith, leb-true (c.in-Some.start + c.in-Some.len) _ inside)
 
-pub returns-in_default-needed : goal.returns-in_default-needed
+pub returns-in_default-needed_by : goal.returns-in_default-needed_by
 unfolding SortedStore Seen as_share as_needed as_locator locator as_reference
-returns-in_default-needed c =
+returns-in_default-needed_by c =
     let a = c.args in
     let o = c.requires.1 in
     let l = as_locator a.locator in
@@ -70,14 +70,14 @@ returns-in_default-needed c =
       arith,
       c.shared_slice_known-1.given j,
     )) in
-    let start = c.in-Payload.start in
-    let count = c.in-Payload.len in
+    let start = c.in-Some.start in
+    let count = c.in-Some.len in
     let t : StoreStretch = record { start = start; count = count } in
-    let held : payload_at a.store.now l ≡ some t = sym c.stored_payload.ensures.result_value ∙ ap as_share c.in-Payload.is in
+    let held : payload_at a.store.now l ≡ some t = sym c.stored_payload.ensures.result_value ∙ ap as_share c.in-Some.is in
     let part = ap (λ (n : ℕ). needed_by (take n (drop start a.store.now))) (add-sub_cancel_left start count) in
     let p = c.place_of-place.ensures in
     let placed = looked_placed a.store.now bytes l t held c.requires.0 o.in_order a.order.now c.place_of-place.result p.0 p.1 in
-    (placed, looked_alone a.store.now bytes l t held (sym part ∙ sym c.needed_by-needed.ensures ∙ ap as_needed c.in_default-needed.is))
+    (placed, looked_alone a.store.now bytes l t held (sym part ∙ sym c.needed_by.ensures ∙ ap as_needed c.in_default-needed_by.is))
 
 pub returns-then-locator-change : goal.returns-then-locator-change
 unfolding SortedStore Seen as_share as_needed as_locator locator as_reference
@@ -89,14 +89,14 @@ returns-then-locator-change c =
       arith,
       c.shared_slice_known-1.given j,
     )) in
-    let start = c.in-Payload.start in
-    let count = c.in-Payload.len in
+    let start = c.in-Some.start in
+    let count = c.in-Some.len in
     let t : StoreStretch = record { start = start; count = count } in
-    let held : payload_at a.store.now l ≡ some t = sym c.stored_payload.ensures.result_value ∙ ap as_share c.in-Payload.is in
+    let held : payload_at a.store.now l ≡ some t = sym c.stored_payload.ensures.result_value ∙ ap as_share c.in-Some.is in
     let part = ap (λ (n : ℕ). needed_by (take n (drop start a.store.now))) (add-sub_cancel_left start count) in
-    let m = c.in-Change.change in
-    let change = sym part ∙ sym c.needed_by-needed.ensures ∙ ap as_needed
-    c.in-Change.is in
+    let m = c.in-Some-needed_by.change in
+    let change = sym part ∙ sym c.needed_by.ensures ∙ ap as_needed
+    c.in-Some-needed_by.is in
     looked_late a.store.now bytes l t held (as_locator m) change (omega (arith, c.if-locator-change.true))
 
 pub returns : goal.returns
@@ -109,15 +109,15 @@ returns c =
       arith,
       c.shared_slice_known-1.given j,
     )) in
-    let start = c.in-Payload.start in
-    let count = c.in-Payload.len in
+    let start = c.in-Some.start in
+    let count = c.in-Some.len in
     let t : StoreStretch = record { start = start; count = count } in
-    let held : payload_at a.store.now l ≡ some t = sym c.stored_payload.ensures.result_value ∙ ap as_share c.in-Payload.is in
+    let held : payload_at a.store.now l ≡ some t = sym c.stored_payload.ensures.result_value ∙ ap as_share c.in-Some.is in
     let part = ap (λ (n : ℕ). needed_by (take n (drop start a.store.now))) (add-sub_cancel_left start count) in
     let p = c.place_of-place.ensures in
     let placed = looked_placed a.store.now bytes l t held c.requires.0 o.in_order a.order.now
     c.place_of-place.result p.0 p.1 in
-    let m = c.in-Change.change in
-    let change = sym part ∙ sym c.needed_by-needed.ensures ∙ ap as_needed
-    c.in-Change.is in
+    let m = c.in-Some-needed_by.change in
+    let change = sym part ∙ sym c.needed_by.ensures ∙ ap as_needed
+    c.in-Some-needed_by.is in
     (placed, omega (arith, c.if-locator-change.false), looked_needs a.store.now bytes l t held (as_locator m) change (omega (arith, c.if-locator-change.false)))

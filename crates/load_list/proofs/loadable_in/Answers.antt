@@ -28,14 +28,14 @@ returns-in_default c =
 
 pub in_order-requires : goal.in_order-requires
 in_order-requires c =
-    (taken_sound c.args.stakes.now c.in-Taken.total
-    (ap as_new_committee (sym c.in-Taken.is) ∙ c.new_committee.ensures)).0
+    (taken_sound c.args.stakes.now c.in-Ok.total
+    (ap as_new_committee (sym c.in-Ok.is) ∙ c.new_committee.ensures)).0
 
 pub returns-then-not-in_order : goal.returns-then-not-in_order
 unfolding as_loadable_list
 returns-then-not-in_order c =
     let a = c.args in
-    let t = taken_sound a.stakes.now c.in-Taken.total (ap as_new_committee (sym c.in-Taken.is) ∙ c.new_committee.ensures) in
+    let t = taken_sound a.stakes.now c.in-Ok.total (ap as_new_committee (sym c.in-Ok.is) ∙ c.new_committee.ensures) in
     let e = list_disordered (as_reading a.reading) a.stakes.now a.store.now a.places.now t.0
     (sym c.in_order.ensures ∙ c.if-not-in_order.true) in
     record { result_value = ap (λ (x : AskedList). x.answer) e; places_after = ap (λ (x : AskedList). x.places) e }
@@ -58,7 +58,7 @@ slice_bounds-count_shares-end c =
 pub count_shares-requires : goal.count_shares-requires
 count_shares-requires c =
     let a = c.args in
-    let t = taken_sound a.stakes.now c.in-Taken.total (ap as_new_committee (sym c.in-Taken.is) ∙ c.new_committee.ensures) in
+    let t = taken_sound a.stakes.now c.in-Ok.total (ap as_new_committee (sym c.in-Ok.is) ∙ c.new_committee.ensures) in
     let o : store_in_order a.stakes.now a.store.now ≡ true = sym c.in_order.ensures ∙ c.if-not-in_order.false in
     let q = c.sorted_positions-count.ensures in
     let laid = order_laid a.stakes.now a.store.now o in
@@ -69,7 +69,7 @@ pub returns-then-places-count_shares : goal.returns-then-places-count_shares
 unfolding as_loadable_list
 returns-then-places-count_shares c =
     let a = c.args in
-    let t = taken_sound a.stakes.now c.in-Taken.total (ap as_new_committee (sym c.in-Taken.is) ∙ c.new_committee.ensures) in
+    let t = taken_sound a.stakes.now c.in-Ok.total (ap as_new_committee (sym c.in-Ok.is) ∙ c.new_committee.ensures) in
     let o = sym c.in_order.ensures ∙ c.if-not-in_order.false in
     let e = list_short (as_reading a.reading) a.stakes.now a.store.now a.places.now t.0 o
     (omega (arith, c.if-places-count_shares.true, c.count_shares.ensures)) in
@@ -86,7 +86,7 @@ slice_bounds-list_all-end c =
 pub list_all-n-requires : goal.list_all-n-requires
 list_all-n-requires c =
     let a = c.args in
-    let t = taken_sound a.stakes.now c.in-Taken.total (ap as_new_committee (sym c.in-Taken.is) ∙ c.new_committee.ensures) in
+    let t = taken_sound a.stakes.now c.in-Ok.total (ap as_new_committee (sym c.in-Ok.is) ∙ c.new_committee.ensures) in
     let o : store_in_order a.stakes.now a.store.now ≡ true = sym
     c.in_order.ensures ∙ c.if-not-in_order.false in
     let q = c.sorted_positions-count.ensures in
@@ -106,7 +106,7 @@ pub returns : goal.returns
 unfolding as_loadable_list
 returns c =
     let a = c.args in
-    let t = taken_sound a.stakes.now c.in-Taken.total (ap as_new_committee (sym c.in-Taken.is) ∙ c.new_committee.ensures) in
+    let t = taken_sound a.stakes.now c.in-Ok.total (ap as_new_committee (sym c.in-Ok.is) ∙ c.new_committee.ensures) in
     let o = sym c.in_order.ensures ∙ c.if-not-in_order.false in
     let room : length (stored_shares (blocks_of a.store.now)) ≤ length a.places.now / 2 = omega
     (arith, c.if-places-count_shares.false, c.count_shares.ensures) in

@@ -6,17 +6,17 @@ use lib.ListN.{length-replicate}
 use borrow.Author.Rules.{rules}
 use Rattle.base.proofs.Lists.{zeros_at}
 use Rattle.record_spec.specs.Reference.{new_range, locators}
-use Rattle.types.specs.Values.{as_range}
+use Rattle.types.specs.Values.{as_range, as_maybe}
 use Rattle.final_readings_spec.specs.Answers.{as_reading}
-use Rattle.list_after.specs.Answers.{as_maybe}
 use Rattle.final_block_votes.proofs.Sorting.{some_committee}
 use Rattle.list_shown.proofs.Reaching.{lent_new}
 use Rattle.load_along.specs.Along.{tables, Found}
-use Rattle.load_along.specs.declared.Ahead.{Ahead}
 use Rattle.load_along.proofs.Going.{passing_start, passing_next, passing_less}
 use Rattle.load_mark_words.proofs.Left.{cleared_none, cleared_more}
 use Rattle.load_marks.proofs.Clearing.{stretch_stored, clearing_end}
 use Rattle.load_marks.proofs.clear_finals.Goals as goal
+use Rattle.std.specs.Prelude.{Option}
+use Rattle.types.specs.declared.TransactionLocatorRange as ranges
 
 pub note_includes-requires : goal.note_includes-requires
 note_includes-requires c = let p = c.requires.0 in
@@ -72,7 +72,7 @@ returns-in_default c =
     let l = c.loop-range in
     let n = c.next_stretch-step in
     let last = as_maybe n.result.along.after in
-    let f = subst (λ (x : Ahead). Found rd a.stakes.now a.store.now (as_maybe l.along.after) last x) c.in_default.is
+    let f = subst (λ (x : Option ranges.TransactionLocatorRange). Found rd a.stakes.now a.store.now (as_maybe l.along.after) last x) c.in_default.is
     (n.ensures.found rd l.invariant.passing.held) in
     rw h.reads at (clearing_end rd a.stakes.now a.store.now a.order.now a.marks.now l.marks
     (tables a.order.now _ l.edges l.lanes) l.along l.invariant last f)
@@ -86,12 +86,12 @@ clear_mark-requires c =
     let l = c.loop-range in
     let n = c.next_stretch-step in
     let last = as_maybe n.result.along.after in
-    let f = subst (λ (x : Ahead). Found rd a.stakes.now a.store.now (as_maybe l.along.after) last x) c.in-Stretch.is
+    let f = subst (λ (x : Option ranges.TransactionLocatorRange). Found rd a.stakes.now a.store.now (as_maybe l.along.after) last x) c.in-Some.is
     (n.ensures.found rd l.invariant.passing.held) in (
       (
         some_committee c.requires.0.0.0,
         stretch_stored rd a.stakes.now a.store.now
-            (tables a.order.now _ l.edges l.lanes) l.along l.invariant.gone l.invariant.passing c.in-Stretch.range last f,
+            (tables a.order.now _ l.edges l.lanes) l.along l.invariant.gone l.invariant.passing c.in-Some.range last f,
       ),
       omega (
         arith,
@@ -108,10 +108,10 @@ loop-range-smaller c =
     let l = c.loop-range in
     let n = c.next_stretch-step in
     let last = as_maybe n.result.along.after in
-    let f = subst (λ (x : Ahead). Found rd a.stakes.now a.store.now (as_maybe l.along.after) last x)
-    c.in-Stretch.is (n.ensures.found rd l.invariant.passing.held) in
+    let f = subst (λ (x : Option ranges.TransactionLocatorRange). Found rd a.stakes.now a.store.now (as_maybe l.along.after) last x)
+    c.in-Some.is (n.ensures.found rd l.invariant.passing.held) in
     passing_less rd a.stakes.now a.store.now (tables a.order.now _ l.edges l.lanes) l.along l.invariant.gone l.invariant.passing
-    c.in-Stretch.range last f n.result.along refl
+    c.in-Some.range last f n.result.along refl
 
 pub loop-range-preserved : goal.loop-range-preserved
 loop-range-preserved c =
@@ -121,17 +121,17 @@ loop-range-preserved c =
     let l = c.loop-range in
     let n = c.next_stretch-step in
     let last = as_maybe n.result.along.after in
-    let f = subst (λ (x : Ahead). Found rd a.stakes.now a.store.now (as_maybe l.along.after) last x)
-    c.in-Stretch.is (n.ensures.found rd l.invariant.passing.held) in
+    let f = subst (λ (x : Option ranges.TransactionLocatorRange). Found rd a.stakes.now a.store.now (as_maybe l.along.after) last x)
+    c.in-Some.is (n.ensures.found rd l.invariant.passing.held) in
     record {
       gone = _;
       passing = passing_next rd a.stakes.now a.store.now (tables a.order.now _ l.edges l.lanes) l.along l.invariant.gone l.invariant.passing
-          c.in-Stretch.range last f _ n.result.along refl
+          c.in-Some.range last f _ n.result.along refl
           (n.ensures.held rd l.invariant.passing.held) (record {
             edges = n.auto.edges ∙ l.invariant.passing.sized.edges;
             marks = n.auto.marks ∙ l.invariant.passing.sized.marks;
           });
       cleared = cleared_more a.store.now a.order.now l.invariant.gone
-          (locators (as_range c.in-Stretch.range)) a.marks.now l.marks _ l.invariant.cleared
+          (locators (as_range c.in-Some.range)) a.marks.now l.marks _ l.invariant.cleared
           c.clear_mark.ensures;
     }

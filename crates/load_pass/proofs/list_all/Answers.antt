@@ -5,14 +5,15 @@ use native.Mathlib.Omega.{arith}
 use lib.ListN.{length-replicate}
 use Rattle.base.proofs.Lists.{zeros_at}
 use Rattle.final_readings_spec.specs.Answers.{as_reading}
-use Rattle.list_after.specs.Answers.{as_maybe}
+use Rattle.types.specs.Values.{as_maybe}
 use Rattle.final_block_votes.proofs.Sorting.{some_committee}
 use Rattle.list_shown.proofs.Reaching.{lent_new}
 use Rattle.load_along.specs.Along.{tables, Found}
-use Rattle.load_along.specs.declared.Ahead.{Ahead}
 use Rattle.load_along.proofs.Going.{passing_less}
 use Rattle.load_pass.proofs.Listings.{walking_start, walking_end, walking_coming, walking_next}
 use Rattle.load_pass.proofs.list_all.Goals as goal
+use Rattle.std.specs.Prelude.{Option}
+use Rattle.types.specs.declared.TransactionLocatorRange as ranges
 
 pub note_includes-requires : goal.note_includes-requires
 note_includes-requires c = let p = c.requires.0 in
@@ -65,7 +66,7 @@ returns-in_default c =
     let l = c.loop-range in
     let n = c.next_stretch-step in
     let last = as_maybe n.result.along.after in
-    let f = subst (λ (x : Ahead). Found rd a.stakes.now a.store.now (as_maybe l.along.after) last x) c.in_default.is
+    let f = subst (λ (x : Option ranges.TransactionLocatorRange). Found rd a.stakes.now a.store.now (as_maybe l.along.after) last x) c.in_default.is
     (n.ensures.found rd l.invariant.passing.held) in (
       rw h.reads at (walking_end rd a.stakes.now a.store.now a.places.now l.places (tables a.order.now _ l.edges l.lanes)
           l.along l.read l.n l.invariant last f),
@@ -80,10 +81,10 @@ list_stretch-reached-requires c =
     let l = c.loop-range in
     let n = c.next_stretch-step in
     let last = as_maybe n.result.along.after in
-    let f = subst (λ (x : Ahead). Found rd a.stakes.now a.store.now (as_maybe l.along.after) last x) c.in-Stretch.is
+    let f = subst (λ (x : Option ranges.TransactionLocatorRange). Found rd a.stakes.now a.store.now (as_maybe l.along.after) last x) c.in-Some.is
     (n.ensures.found rd l.invariant.passing.held) in (
       walking_coming rd a.stakes.now a.store.now a.places.now l.places (tables a.order.now _ l.edges l.lanes) l.along l.read
-          l.n l.invariant c.in-Stretch.range last f
+          l.n l.invariant c.in-Some.range last f
           c.requires.0.0.0.in_order,
       (
         some_committee c.requires.0.0.0,
@@ -99,10 +100,10 @@ loop-range-smaller c =
     let l = c.loop-range in
     let n = c.next_stretch-step in
     let last = as_maybe n.result.along.after in
-    let f = subst (λ (x : Ahead). Found rd a.stakes.now a.store.now (as_maybe l.along.after) last x)
-    c.in-Stretch.is (n.ensures.found rd l.invariant.passing.held) in
+    let f = subst (λ (x : Option ranges.TransactionLocatorRange). Found rd a.stakes.now a.store.now (as_maybe l.along.after) last x)
+    c.in-Some.is (n.ensures.found rd l.invariant.passing.held) in
     passing_less rd a.stakes.now a.store.now (tables a.order.now _ l.edges l.lanes) l.along l.invariant.gone l.invariant.passing
-    c.in-Stretch.range last f n.result.along refl
+    c.in-Some.range last f n.result.along refl
 
 pub loop-range-preserved : goal.loop-range-preserved
 loop-range-preserved c =
@@ -112,10 +113,10 @@ loop-range-preserved c =
     let l = c.loop-range in
     let n = c.next_stretch-step in
     let last = as_maybe n.result.along.after in
-    let f = subst (λ (x : Ahead). Found rd a.stakes.now a.store.now (as_maybe l.along.after) last x)
-    c.in-Stretch.is (n.ensures.found rd l.invariant.passing.held) in
+    let f = subst (λ (x : Option ranges.TransactionLocatorRange). Found rd a.stakes.now a.store.now (as_maybe l.along.after) last x)
+    c.in-Some.is (n.ensures.found rd l.invariant.passing.held) in
     walking_next rd a.stakes.now a.store.now a.places.now l.places (tables a.order.now _ l.edges l.lanes) l.along l.read l.n
-    l.invariant c.in-Stretch.range last f
+    l.invariant c.in-Some.range last f
     c.requires.0.0.0.in_order _ _ n.result.along
     c.list_stretch-reached.result.read c.list_stretch-reached.result.found refl
     (n.ensures.held rd l.invariant.passing.held)

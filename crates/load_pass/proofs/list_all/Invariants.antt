@@ -1,5 +1,5 @@
 use Rattle.final_readings_spec.specs.Answers.{as_reading}
-use Rattle.list_after.specs.Answers.{as_maybe}
+use Rattle.types.specs.Values.{as_maybe}
 use Rattle.load_along.specs.Along.{tables}
 use Rattle.load_along.proofs.Going.{left_after}
 use Rattle.load_pass.proofs.Listings.{Walking}

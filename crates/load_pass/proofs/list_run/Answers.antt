@@ -120,8 +120,8 @@ overflow_add-end c =
     let next = c.next_statement-next in
     let i = l.cursor.index in
     let rec = a.rec.now in
-    let st = told_share next.result.statement c.in-Payload.start c.in-Payload.len (sym c.share_place.ensures ∙ c.in-Payload.is) in
-    let between : payload_between l.cursor.at next.result.next.at (Share c.in-Payload.start c.in-Payload.len) ≡ true = sym
+    let st = told_share next.result.statement c.in-Some.start c.in-Some.len (sym c.share_place.ensures ∙ c.in-Some.is) in
+    let between : payload_between l.cursor.at next.result.next.at (Share c.in-Some.start c.in-Some.len) ≡ true = sym
     (ap (payload_between l.cursor.at next.result.next.at) st) ∙ next.ensures.1.1 in
     omega (
       arith,
@@ -129,8 +129,8 @@ overflow_add-end c =
       payload_inside rec (bytes_of rec (λ j h. omega (
         arith,
         c.shared_slice_known-2-1.given j,
-      ))) formed l.cursor.index l.cursor.at next.result.next.at c.in-Payload.start
-          c.in-Payload.len between (ap (λ (x : StatementCursor). x.at) next.ensures.1.0),
+      ))) formed l.cursor.index l.cursor.at next.result.next.at c.in-Some.start
+          c.in-Some.len between (ap (λ (x : StatementCursor). x.at) next.ensures.1.0),
     )
 
 pub slice_bounds-list_share-count : goal.slice_bounds-list_share-count
@@ -154,16 +154,16 @@ slice_bounds-list_share-end c =
     let next = c.next_statement-next in
     let i = l.cursor.index in
     let rec = a.rec.now in
-    let st = told_share next.result.statement c.in-Payload.start c.in-Payload.len
-    (sym c.share_place.ensures ∙ c.in-Payload.is) in
-    let between : payload_between l.cursor.at next.result.next.at (Share c.in-Payload.start c.in-Payload.len) ≡ true = sym
+    let st = told_share next.result.statement c.in-Some.start c.in-Some.len
+    (sym c.share_place.ensures ∙ c.in-Some.is) in
+    let between : payload_between l.cursor.at next.result.next.at (Share c.in-Some.start c.in-Some.len) ≡ true = sym
     (ap (payload_between l.cursor.at next.result.next.at) st) ∙ next.ensures.1.1 in
     omega (
       arith,
       payload_inside rec (bytes_of rec (λ j h. omega (
         arith,
         c.shared_slice_known-2-1.given j,
-      ))) formed l.cursor.index l.cursor.at next.result.next.at c.in-Payload.start c.in-Payload.len between
+      ))) formed l.cursor.index l.cursor.at next.result.next.at c.in-Some.start c.in-Some.len between
           (ap (λ (x : StatementCursor). x.at) next.ensures.1.0),
     )
 
@@ -209,12 +209,12 @@ loop-cursor-preserved c =
     let next = c.next_statement-next in
     let i = l.cursor.index in
     let rec = a.rec.now in
-    let st = told_share next.result.statement c.in-Payload.start c.in-Payload.len
-    (sym c.share_place.ensures ∙ c.in-Payload.is) in
-    let between : payload_between l.cursor.at next.result.next.at (Share c.in-Payload.start c.in-Payload.len) ≡ true = sym
+    let st = told_share next.result.statement c.in-Some.start c.in-Some.len
+    (sym c.share_place.ensures ∙ c.in-Some.is) in
+    let between : payload_between l.cursor.at next.result.next.at (Share c.in-Some.start c.in-Some.len) ≡ true = sym
     (ap (payload_between l.cursor.at next.result.next.at) st) ∙ next.ensures.1.1 in
-    let start = c.in-Payload.start in
-    let count = c.in-Payload.len in
+    let start = c.in-Some.start in
+    let count = c.in-Some.len in
     let p : Bytes = take count (drop start rec) in
     let part : take (start + count - start) (drop start rec) ≡ p = ap (λ (m : ℕ). take m (drop start rec)) (add-sub_cancel_left start count) in
     let stands : get_elem? (block_in rec).statements i ≡ some (share p) = payload_here (block_in rec) i p few (sym (ap (as_statement rec) st) ∙ next.ensures.0)

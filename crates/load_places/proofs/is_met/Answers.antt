@@ -13,14 +13,14 @@ returns-in_default c = rw c.in_default.is
 pub returns-then-share-change : goal.returns-then-share-change
 unfolding met as_needed as_locator locator as_reference
 returns-then-share-change c =
-    let m = c.in-Change.change in
+    let m = c.in-Some.change in
     let a = c.args in
-    rw (c.in-Change.is, le-ltb m.block.round.0 a.share.block.round.0 c.if-share-change.true)
+    rw (c.in-Some.is, le-ltb m.block.round.0 a.share.block.round.0 c.if-share-change.true)
 
 pub returns : goal.returns
 unfolding met as_needed as_locator locator as_reference
 returns c =
-    let m = c.in-Change.change in
+    let m = c.in-Some.change in
     let a = c.args in
-    rw (c.in-Change.is, lt-ltb m.block.round.0 a.share.block.round.0 (omega arith))
+    rw (c.in-Some.is, lt-ltb m.block.round.0 a.share.block.round.0 (omega arith))
     c.is_listed.ensures

@@ -23,14 +23,14 @@ returns-in_default c =
 
 pub in_order-requires : goal.in_order-requires
 in_order-requires c =
-    (taken_sound c.args.stakes.now c.in-Taken.total
-    (ap as_new_committee (sym c.in-Taken.is) ∙ c.new_committee.ensures)).0
+    (taken_sound c.args.stakes.now c.in-Ok.total
+    (ap as_new_committee (sym c.in-Ok.is) ∙ c.new_committee.ensures)).0
 
 pub returns-then-not-in_order : goal.returns-then-not-in_order
 unfolding as_loadable
 returns-then-not-in_order c =
     let a = c.args in
-    let t = taken_sound a.stakes.now c.in-Taken.total (ap as_new_committee (sym c.in-Taken.is) ∙ c.new_committee.ensures) in
+    let t = taken_sound a.stakes.now c.in-Ok.total (ap as_new_committee (sym c.in-Ok.is) ∙ c.new_committee.ensures) in
     question_disordered (as_reading a.reading) a.stakes.now a.store.now (as_locator a.locator) t.0
     (sym c.in_order.ensures ∙ c.if-not-in_order.true)
 
@@ -49,28 +49,20 @@ slice_bounds-asked_ready-end c =
     let laid = order_laid a.stakes.now a.store.now (sym c.in_order.ensures ∙ c.if-not-in_order.false) in
     q.1.0 ∙ sym (ap length q.1.1 ∙ sorted_count a.store.now laid)
 
-pub asked_ready-requires : goal.asked_ready-requires
-asked_ready-requires c =
+pub asked_ready-ready-requires : goal.asked_ready-ready-requires
+asked_ready-ready-requires c =
     let a = c.args in
-    let t = taken_sound a.stakes.now c.in-Taken.total (ap as_new_committee (sym c.in-Taken.is) ∙ c.new_committee.ensures) in
+    let t = taken_sound a.stakes.now c.in-Ok.total (ap as_new_committee (sym c.in-Ok.is) ∙ c.new_committee.ensures) in
     let o : store_in_order a.stakes.now a.store.now ≡ true = sym c.in_order.ensures ∙ c.if-not-in_order.false in
     let q = c.sorted_positions-count.ensures in
     let laid = order_laid a.stakes.now a.store.now o in
     let n = ap length q.1.1 ∙ sorted_count a.store.now laid in
     ((record { sound = t.0; in_order = o; laid = laid; places = q.1.1 }, t.1), omega (arith, q, n))
 
-pub returns-then-asked_ready : goal.returns-then-asked_ready
-unfolding as_loadable
-returns-then-asked_ready c =
-    let a = c.args in
-    let t = taken_sound a.stakes.now c.in-Taken.total (ap as_new_committee (sym c.in-Taken.is) ∙ c.new_committee.ensures) in
-    question_asked (as_reading a.reading) a.stakes.now a.store.now (as_locator a.locator) t.0
-    (sym c.in_order.ensures ∙ c.if-not-in_order.false) _ (sym c.if-asked_ready.true ∙ c.asked_ready.ensures)
-
 pub returns : goal.returns
 unfolding as_loadable
 returns c =
     let a = c.args in
-    let t = taken_sound a.stakes.now c.in-Taken.total (ap as_new_committee (sym c.in-Taken.is) ∙ c.new_committee.ensures) in
+    let t = taken_sound a.stakes.now c.in-Ok.total (ap as_new_committee (sym c.in-Ok.is) ∙ c.new_committee.ensures) in
     question_asked (as_reading a.reading) a.stakes.now a.store.now (as_locator a.locator) t.0
-    (sym c.in_order.ensures ∙ c.if-not-in_order.false) _ (sym c.if-asked_ready.false ∙ c.asked_ready.ensures)
+    (sym c.in_order.ensures ∙ c.if-not-in_order.false) _ c.asked_ready-ready.ensures

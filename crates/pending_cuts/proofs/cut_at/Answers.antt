@@ -9,17 +9,17 @@ pub split_item-requires : goal.split_item-requires
 split_item-requires c =
     let start = c in (
       start.requires.0,
-      cut_index _ start.requires.0 _ _ _ c.inside.ensures _ c.in-At.is,
+      cut_index _ start.requires.0 _ _ _ c.inside.ensures _ c.in-Some.is,
       omega (
         arith,
         start.requires.1,
         length_present _ start.requires.0 _ _ _ c.inside.ensures _
-            c.in-At.is,
+            c.in-Some.is,
       ),
     )
 
 pub returns : goal.returns
 returns c =
     rw (cut_present _ c.requires.0 _ _ _
-    c.inside.ensures _ c.in-At.is)
+    c.inside.ensures _ c.in-Some.is)
     c.split_item.ensures

@@ -8,4 +8,4 @@ returns-in_default c =
 
 pub returns : goal.returns
 returns c =
-    (length_present _ c.requires _ _ _ c.inside.ensures _ c.in-At.is, omega arith)
+    (length_present _ c.requires _ _ _ c.inside.ensures _ c.in-Some.is, omega arith)

@@ -9,6 +9,3 @@ use Rattle.pending_form.proofs.votes_in_order.Given as goal
 
 abbrev pub invariant-loop-k : goal.invariant-loop-k
 invariant-loop-k l = (l.k ≤ l.n) × ((j : ℕ) → j < l.k → aggregator_in_order l.stakes (get_or (items_of l.t) j no_item).aggregator ≡ true)
-
-abbrev pub decreases-loop-k : goal.decreases-loop-k
-decreases-loop-k l = l.n - l.k

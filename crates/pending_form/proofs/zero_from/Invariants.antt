@@ -7,6 +7,3 @@ use Rattle.pending_form.proofs.zero_from.Given as goal
 
 abbrev pub invariant-loop-i : goal.invariant-loop-i
 invariant-loop-i l = any_of (ltb 0) (drop l.from l.t) ≡ any_of (ltb 0) (drop l.i l.t)
-
-abbrev pub decreases-loop-i : goal.decreases-loop-i
-decreases-loop-i l = length l.t - l.i

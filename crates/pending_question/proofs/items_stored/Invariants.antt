@@ -5,6 +5,3 @@ use Rattle.pending_question.proofs.items_stored.Given as goal
 
 abbrev pub invariant-loop-k : goal.invariant-loop-k
 invariant-loop-k l = Checking l.store (items_of l.table) l.walk l.k
-
-abbrev pub decreases-loop-k : goal.decreases-loop-k
-decreases-loop-k l = l.n - l.k

@@ -16,13 +16,13 @@ returns-in_default c = record {
 }
 
 pub in_order-requires : goal.in_order-requires
-in_order-requires c = (taken_sound _ c.in-Taken.field-0
-    (ap as_new_committee (sym c.in-Taken.is) ∙ c.new_committee.ensures)).0
+in_order-requires c = (taken_sound _ c.in-Ok.field-0
+    (ap as_new_committee (sym c.in-Ok.is) ∙ c.new_committee.ensures)).0
 
 pub returns-then-not-in_order : goal.returns-then-not-in_order
 returns-then-not-in_order c = record {
-  first = sym (refuses_store _ _ _ (taken_sound _ c.in-Taken.field-0
-      (ap as_new_committee (sym c.in-Taken.is) ∙ c.new_committee.ensures)).0
+  first = sym (refuses_store _ _ _ (taken_sound _ c.in-Ok.field-0
+      (ap as_new_committee (sym c.in-Ok.is) ∙ c.new_committee.ensures)).0
       (sym c.in_order.ensures ∙ c.if-not-in_order.true));
   laid = λ (z : ◌≡◌ {A = ℕ} 10 0). absurd (omega arith);
 }
@@ -31,7 +31,7 @@ pub table_in_order-requires : goal.table_in_order-requires
 table_in_order-requires c =
     let s = c.args.store.now in
     let order = sym c.in_order.ensures ∙ c.if-not-in_order.false in (
-      (taken_sound _ c.in-Taken.field-0 (ap as_new_committee (sym c.in-Taken.is) ∙ c.new_committee.ensures)).0,
+      (taken_sound _ c.in-Ok.field-0 (ap as_new_committee (sym c.in-Ok.is) ∙ c.new_committee.ensures)).0,
       laid_readable s (order_laid
           c.args.stakes.now s
           (bytes_of s (λ i h. omega (arith, c.type_inv.store i))) order),
@@ -39,8 +39,8 @@ table_in_order-requires c =
 
 pub returns-then-not-table_in_order : goal.returns-then-not-table_in_order
 returns-then-not-table_in_order c = record {
-  first = sym (refuses_table _ _ _ (taken_sound _ c.in-Taken.field-0
-      (ap as_new_committee (sym c.in-Taken.is) ∙ c.new_committee.ensures)).0 (sym c.in_order.ensures ∙ c.if-not-in_order.false)
+  first = sym (refuses_table _ _ _ (taken_sound _ c.in-Ok.field-0
+      (ap as_new_committee (sym c.in-Ok.is) ∙ c.new_committee.ensures)).0 (sym c.in_order.ensures ∙ c.if-not-in_order.false)
       (sym c.table_in_order.ensures ∙ c.if-not-table_in_order.true));
   laid = λ (z : ◌≡◌ {A = ℕ} 11 0). absurd (omega arith);
 }
@@ -48,8 +48,8 @@ returns-then-not-table_in_order c = record {
 pub returns : goal.returns
 returns c =
     let s = c.args.store.now in record {
-      first = sym (refuses_none _ _ _ (taken_sound _ c.in-Taken.field-0
-          (ap as_new_committee (sym c.in-Taken.is) ∙ c.new_committee.ensures)).0 (sym c.in_order.ensures ∙ c.if-not-in_order.false)
+      first = sym (refuses_none _ _ _ (taken_sound _ c.in-Ok.field-0
+          (ap as_new_committee (sym c.in-Ok.is) ∙ c.new_committee.ensures)).0 (sym c.in_order.ensures ∙ c.if-not-in_order.false)
           (sym c.table_in_order.ensures ∙ c.if-not-table_in_order.false));
       laid = λ _. order_laid
           c.args.stakes.now s

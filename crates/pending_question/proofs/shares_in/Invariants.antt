@@ -4,6 +4,3 @@ use Rattle.pending_question.proofs.shares_in.Given as goal
 
 abbrev pub invariant-loop-o : goal.invariant-loop-o
 invariant-loop-o l = Sharing l.rec l.start l.end l.o l.cursor
-
-abbrev pub decreases-loop-o : goal.decreases-loop-o
-decreases-loop-o l = l.end - l.o

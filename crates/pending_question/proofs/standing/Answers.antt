@@ -14,7 +14,7 @@ returns-in_default c = let o = c in sym
 
 pub item_at-x-requires : goal.item_at-x-requires
 item_at-x-requires c = let o = c in
-    (o.requires.1.laid, index_found _ _ _ _ c.holding-found.ensures c.in-At.is)
+    (o.requires.1.laid, index_found _ _ _ _ c.holding-found.ensures c.in-Some.is)
 
 pub returns : goal.returns
 unfolding as_pending as_locator locator as_item
@@ -22,4 +22,4 @@ returns c = let o = c in rw c.count-voters.ensures
     (sym (standing_some _ _ (as_locator o.args.locator) _ _ o.requires.1
     c.lookup-p.ensures
     c.holding-found.ensures _ (as_item c.item_at-x.result)
-    c.in-At.is c.item_at-x.ensures))
+    c.in-Some.is c.item_at-x.ensures))

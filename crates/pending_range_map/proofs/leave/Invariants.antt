@@ -6,6 +6,3 @@ use Rattle.pending_range_map.proofs.leave.Given as goal
 
 abbrev pub invariant-loop-k : goal.invariant-loop-k
 invariant-loop-k l = (l.k ≤ l.n) × Kept (stays l.total.0 l.p l.start l.end) (items_of l.initial.t) l.initial.t l.kept l.k l.t
-
-abbrev pub decreases-loop-k : goal.decreases-loop-k
-decreases-loop-k l = l.n - l.k

@@ -21,7 +21,7 @@ pub with_vote-requires : goal.with_vote-requires
 with_vote-requires c =
     let start = c in
     let s = known_sound _ _ _ (sym c.get_stake.ensures ∙
-    c.in-Known.is) in
+    c.in-Some.is) in
     let f = vote_fits _ no_votes _ start.requires.broken (no_votes_order _) start.requires.known in
     (f.0, omega (arith, f.1, s.1, ap (λ g. g.stake) c.new.ensures))
 
@@ -49,7 +49,7 @@ pub returns : goal.returns
 returns c =
     let start = c in
     let s = known_sound _ _ _ (sym c.get_stake.ensures ∙
-    c.in-Known.is) in
+    c.in-Some.is) in
     rw (c.put_item.ensures, c.item_count-n.ensures)
     (added_table _ _ _ _ (holds_holding _ start.requires.holds) (omega (arith, room_words _ _ start.requires.holds start.requires.room))
     (first_vote_lem _ _ _ _ _ c.with_vote.ensures c.new.ensures s.1))

@@ -37,7 +37,7 @@ vote_items-requires c =
     let h = vote_range start.requires.formed c.if-end-start.false start.requires.room in
     let w = second_cut h (first_cut h c.cut_at.ensures)
     c.cut_at-2.ensures in
-    let s = known_sound _ _ _ (sym c.get_stake.ensures ∙ c.in-Known.is) in
+    let s = known_sound _ _ _ (sym c.get_stake.ensures ∙ c.in-Some.is) in
     (w.holds, few _ _ start.requires.broken start.requires.known, cut_countable h start.args.a.0 w s.1 start.requires.broken start.requires.known)
 
 pub returns : goal.returns
@@ -46,5 +46,5 @@ returns c =
     let h = vote_range start.requires.formed c.if-end-start.false start.requires.room in
     let w = second_cut h (first_cut h c.cut_at.ensures)
     c.cut_at-2.ensures in
-    let s = known_sound _ _ _ (sym c.get_stake.ensures ∙ c.in-Known.is) in
+    let s = known_sound _ _ _ (sym c.get_stake.ensures ∙ c.in-Some.is) in
     all_voted h start.args.a.0 w s.1 c.vote_items.ensures

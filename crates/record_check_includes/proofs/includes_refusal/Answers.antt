@@ -1,12 +1,11 @@
 use mathlib.Core.Path.{refl, sym, ◌∙◌}
-use Prim.Native.Nat.{◌-◌, ◌<◌}
+use Prim.Native.Nat.{◌<◌}
 use native.Mathlib.Omega.{arith}
 use lib.ListN.{length, get_or}
 use Rattle.record_spec.specs.Record.{block_in, no_reference}
 use Rattle.types.proofs.References.{as_author, as_round}
 use Rattle.record_check_includes.proofs.Includes.{lookup_known, of_includes, include_unknown, include_high, include_on, include_end}
 use Rattle.committee.proofs.Answers.{unknown_sound}
-use borrow.Author.Rules.{rules}
 use Rattle.record_check_includes.proofs.includes_refusal.Goals as goal
 
 pub loop-k-init : goal.loop-k-init
@@ -51,7 +50,7 @@ returns-then-reference-include c =
     let a = as_author i.include-include.result at i.include-include.ensures in
     let n = as_round i.include-include.result at i.include-include.ensures in
     let m = as_round r.reference-reference.result b.reference r.reference-reference.ensures in
-    let yes = lookup_known stakes at.authority _ (rw a at (sym c.get_stake.ensures ∙ c.in-Known.is)) in
+    let yes = lookup_known stakes at.authority _ (rw a at (sym c.get_stake.ensures ∙ c.in-Some.is)) in
     sym (l.loop-k.invariant.1 ∙ include_high stakes b b.includes k inside yes (omega (arith, n, m, c.if-reference-include.true)))
 
 pub loop-k-smaller : goal.loop-k-smaller
@@ -73,7 +72,7 @@ loop-k-preserved c =
     let a = as_author i.include-include.result at i.include-include.ensures in
     let n = as_round i.include-include.result at i.include-include.ensures in
     let m = as_round r.reference-reference.result b.reference r.reference-reference.ensures in
-    let yes = lookup_known stakes at.authority _ (rw a at (sym c.get_stake.ensures ∙ c.in-Known.is)) in
+    let yes = lookup_known stakes at.authority _ (rw a at (sym c.get_stake.ensures ∙ c.in-Some.is)) in
     (omega arith, l.loop-k.invariant.1 ∙ include_on stakes b b.includes k inside yes (omega (arith, n, m, c.if-reference-include.false)))
 
 pub returns : goal.returns

@@ -9,6 +9,3 @@ abbrev pub invariant-loop-k : goal.invariant-loop-k
 invariant-loop-k l =
     (l.k ≤ length (block_in l.rec).includes) × (of_includes l.stakes (block_in l.rec) (block_in l.rec).includes ≡ of_includes l.stakes (block_in l.rec)
     (drop l.k (block_in l.rec).includes))
-
-abbrev pub decreases-loop-k : goal.decreases-loop-k
-decreases-loop-k l = length (block_in l.rec).includes - l.k

@@ -3,6 +3,8 @@ use Prim.Native.Nat.{◌+◌, ◌<◌}
 use native.Mathlib.Omega.{arith}
 use lib.ListN.{length}
 use Rattle.base.specs.Checks.{refusal}
+use Rattle.base.proofs.Refusals.{number_not_zero}
+use Rattle.std.proofs.lemmas.Result.{err_from_is_err_and}
 use Rattle.record_spec.specs.Block.{Statement}
 use Rattle.record_spec.specs.Record.{block_in}
 use Rattle.record_spec.specs.Verify.{statement_checks}
@@ -23,19 +25,18 @@ next_statement-found-requires c =
     let l = c in
     (l.requires, (l.loop-cursor.invariant.0, omega (arith, l.statement_count-count.ensures, c.loop-cursor-test.true)))
 
-pub returns-then-refused-ne0 : goal.returns-then-refused-ne0
+pub returns-in_err-statement_refusal : goal.returns-in_err-statement_refusal
 unfolding of_statements
-returns-then-refused-ne0 c =
-    let n = c in
-    let l = n in
-    let o = l in
-    let s = o.args.rec.now in
+returns-in_err-statement_refusal c =
+    let s = c.args.rec.now in
     let ss = (block_in s).statements in
-    let i = l.loop-cursor.cursor.index in
-    let inside : i < length ss = omega (arith, l.statement_count-count.ensures, n.loop-cursor-test.true) in
-    let here = ap (λ (x : Statement). refusal (statement_checks x)) n.next_statement-found.ensures.0 in
-    let told = c.statement_refusal-refused.ensures s ∙ here in
-    told ∙ sym (l.loop-cursor.invariant.1.1 ∙ statement_refused ss i inside (λ e. c.if-refused-ne0.true (told ∙ e)))
+    let i = c.loop-cursor.cursor.index in
+    let inside : i < length ss = omega (arith, c.statement_count-count.ensures, c.loop-cursor-test.true) in
+    let here = ap (λ (x : Statement). refusal (statement_checks x)) c.next_statement-found.ensures.0 in
+    let told = c.in_err-statement_refusal.ensures s ∙ here in
+    let p = err_from_is_err_and c.from_residual.result c.from_residual.ensures.1 in
+    rw (p.1, p.2) (told ∙ sym (c.loop-cursor.invariant.1.1 ∙ statement_refused ss i inside
+    (λ e. number_not_zero c.in_err-statement_refusal.field-0.0 (told ∙ e))))
 
 pub loop-cursor-smaller : goal.loop-cursor-smaller
 loop-cursor-smaller c =
@@ -61,7 +62,7 @@ loop-cursor-preserved c =
     let here = ap (λ (x : Statement). refusal (statement_checks x)) n.next_statement-found.ensures.0 in
     let next = n.next_statement-found.result.next in
     let index = placed_index s next (i + 1) n.next_statement-found.ensures.1.0 in
-    let none = sym (c.statement_refusal-refused.ensures s ∙ here) ∙ c.if-refused-ne0.false in (
+    let none = sym (c.in_ok-statement_refusal.ensures s ∙ here) in (
       placed s next (i + 1) n.next_statement-found.ensures.1.0,
       (omega (arith, index, inside), l.loop-cursor.invariant.1.1 ∙ rw index (statement_on ss i inside none)),
     )

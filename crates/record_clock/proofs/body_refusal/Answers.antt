@@ -1,6 +1,7 @@
 use mathlib.Core.Path.{sym, ◌∙◌}
 use borrow.Author.Tests.{eq-eqb, ne_eqb}
-use Rattle.base.proofs.Refusals.{zero_passes}
+use Rattle.base.proofs.Refusals.{zero_passes, number_not_zero}
+use Rattle.std.proofs.lemmas.Result.{err_from_is_err_and}
 use Rattle.record_spec.specs.Record.{block_in}
 use Rattle.types.proofs.References.{as_round}
 use Rattle.record_check_includes.proofs.Includes.{of_includes, includes_numbered}
@@ -8,25 +9,24 @@ use Rattle.record_check_statements.proofs.Statements.{of_statements}
 use Rattle.record_clock.proofs.Checking.{body_includes, body_statements, body_clock}
 use Rattle.record_clock.proofs.body_refusal.Goals as goal
 
-pub returns-then-of_includes-ne0 : goal.returns-then-of_includes-ne0
+pub returns-in_err-includes_refusal : goal.returns-in_err-includes_refusal
 unfolding of_includes
-returns-then-of_includes-ne0 c =
-    let i = c in
-    let o = i in
-    let k = o.args.stakes.now in
-    let b = block_in o.args.rec.now in
-    i.includes_refusal-of_includes.ensures ∙ sym (body_includes k b (λ e. c.if-of_includes-ne0.true (i.includes_refusal-of_includes.ensures ∙ e)))
+returns-in_err-includes_refusal c =
+    let k = c.args.stakes.now in
+    let b = block_in c.args.rec.now in
+    let told = c.in_err-includes_refusal.ensures in
+    let p = err_from_is_err_and c.from_residual.result c.from_residual.ensures.1 in
+    rw (p.1, p.2) (told ∙ sym (body_includes k b (λ e. number_not_zero c.in_err-includes_refusal.field-0.0 (told ∙ e))))
 
-pub returns-then-of_statements-ne0 : goal.returns-then-of_statements-ne0
+pub returns-in_err-statements_refusal : goal.returns-in_err-statements_refusal
 unfolding of_includes of_statements
-returns-then-of_statements-ne0 c =
-    let i = c in
-    let o = i in
-    let k = o.args.stakes.now in
-    let b = block_in o.args.rec.now in
-    let s = c in
-    s.statements_refusal-of_statements.ensures ∙ sym (body_statements k b (sym i.includes_refusal-of_includes.ensures ∙ s.if-of_includes-ne0.false)
-    (λ e. c.if-of_statements-ne0.true (s.statements_refusal-of_statements.ensures ∙ e)))
+returns-in_err-statements_refusal c =
+    let k = c.args.stakes.now in
+    let b = block_in c.args.rec.now in
+    let told = c.in_err-statements_refusal.ensures in
+    let p = err_from_is_err_and c.from_residual-in_err-statements_refusal.result c.from_residual-in_err-statements_refusal.ensures.1 in
+    rw (p.1, p.2) (told ∙ sym (body_statements k b (sym c.in_ok-includes_refusal.ensures)
+    (λ e. number_not_zero c.in_err-statements_refusal.field-0.0 (told ∙ e))))
 
 pub returns-then-reference-eq0 : goal.returns-then-reference-eq0
 unfolding of_includes of_statements
@@ -38,8 +38,8 @@ returns-then-reference-eq0 c =
     let r = c in
     let s = r in
     let n = as_round r.reference-reference.result b.reference r.reference-reference.ensures in
-    let clock = body_clock k b (sym i.includes_refusal-of_includes.ensures ∙ s.if-of_includes-ne0.false)
-    (sym s.statements_refusal-of_statements.ensures ∙ r.if-of_statements-ne0.false) in
+    let clock = body_clock k b (sym c.in_ok-includes_refusal.ensures)
+    (sym c.in_ok-statements_refusal.ensures) in
     sym (clock ∙ rw (eq-eqb b.reference.round 0 (sym n ∙ c.if-reference-eq0.true)))
 
 pub threshold_clock_valid_non_genesis-requires : goal.threshold_clock_valid_non_genesis-requires
@@ -55,7 +55,7 @@ threshold_clock_valid_non_genesis-requires c =
         (
           o.requires.0.1,
           zero_passes _ (includes_numbered k b b.includes)
-              (sym i.includes_refusal-of_includes.ensures ∙ s.if-of_includes-ne0.false),
+              (sym c.in_ok-includes_refusal.ensures),
         ),
       ),
       o.requires.1,
@@ -72,8 +72,8 @@ returns-then-threshold_clock_valid_non_genesis c =
     let r = e in
     let s = r in
     let n = as_round r.reference-reference.result b.reference r.reference-reference.ensures in
-    let clock = body_clock k b (sym i.includes_refusal-of_includes.ensures ∙ s.if-of_includes-ne0.false)
-    (sym s.statements_refusal-of_statements.ensures ∙ r.if-of_statements-ne0.false) in
+    let clock = body_clock k b (sym c.in_ok-includes_refusal.ensures)
+    (sym c.in_ok-statements_refusal.ensures) in
     sym (clock ∙ rw (
       ne_eqb b.reference.round 0 (λ z. e.if-reference-eq0.false (n ∙ z)),
       sym c.threshold_clock_valid_non_genesis.ensures
@@ -91,8 +91,8 @@ returns c =
     let r = e in
     let s = r in
     let n = as_round r.reference-reference.result b.reference r.reference-reference.ensures in
-    let clock = body_clock k b (sym i.includes_refusal-of_includes.ensures ∙ s.if-of_includes-ne0.false)
-    (sym s.statements_refusal-of_statements.ensures ∙ r.if-of_statements-ne0.false) in
+    let clock = body_clock k b (sym c.in_ok-includes_refusal.ensures)
+    (sym c.in_ok-statements_refusal.ensures) in
     sym (clock ∙ rw (
       ne_eqb b.reference.round 0 (λ z. e.if-reference-eq0.false (n ∙ z)),
       sym c.threshold_clock_valid_non_genesis.ensures

@@ -28,7 +28,7 @@ returns-then-reference-ne0 c =
     let a = as_author r.reference-reference.result b.reference r.reference-reference.ensures in
     let n = as_round r.reference-reference.result b.reference r.reference-reference.ensures in
     let yes = lookup_known k b.reference.authority _ (rw a at
-    (sym c.get_stake.ensures ∙ c.in-Known.is)) in
+    (sym c.get_stake.ensures ∙ c.in-Some.is)) in
     sym (head_is k b ∙ rw (yes, ne_eqb b.reference.round 0 (λ e. c.if-reference-ne0.true (n ∙ e))))
 
 pub returns-then-include_count-ne0 : goal.returns-then-include_count-ne0
@@ -40,7 +40,7 @@ returns-then-include_count-ne0 c =
     let a = as_author r.reference-reference.result b.reference r.reference-reference.ensures in
     let n = as_round r.reference-reference.result b.reference r.reference-reference.ensures in
     let yes = lookup_known k b.reference.authority _ (rw a at
-    (sym c.get_stake.ensures ∙ c.in-Known.is)) in
+    (sym c.get_stake.ensures ∙ c.in-Some.is)) in
     sym (head_is k b ∙ rw (
       yes,
       eq-eqb b.reference.round 0 (sym n ∙ c.if-reference-ne0.false),
@@ -57,7 +57,7 @@ returns-then-statement_count-ne0 c =
     let a = as_author r.reference-reference.result b.reference r.reference-reference.ensures in
     let n = as_round r.reference-reference.result b.reference r.reference-reference.ensures in
     let yes = lookup_known k b.reference.authority _ (rw a at
-    (sym c.get_stake.ensures ∙ c.in-Known.is)) in
+    (sym c.get_stake.ensures ∙ c.in-Some.is)) in
     sym (head_is k b ∙ rw (
       yes,
       eq-eqb b.reference.round 0 (sym n ∙ c.if-reference-ne0.false),
@@ -76,7 +76,7 @@ returns c =
     let a = as_author r.reference-reference.result b.reference r.reference-reference.ensures in
     let n = as_round r.reference-reference.result b.reference r.reference-reference.ensures in
     let yes = lookup_known k b.reference.authority _ (rw a at
-    (sym c.get_stake.ensures ∙ c.in-Known.is)) in
+    (sym c.get_stake.ensures ∙ c.in-Some.is)) in
     sym (head_is k b ∙ rw (
       yes,
       eq-eqb b.reference.round 0 (sym n ∙ c.if-reference-ne0.false),

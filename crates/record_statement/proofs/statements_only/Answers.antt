@@ -3,7 +3,7 @@ use lib.ListN.{drop}
 use Rattle.base.proofs.Read.{part}
 use Rattle.record_statement.specs.Values.{as_statement}
 use Rattle.record_statement.specs.Step.{Took}
-use Rattle.record_statement.specs.declared.Taken.TheVariants.{Statement, Malformed}
+use Rattle.std.specs.Prelude.{Some, None}
 use Rattle.record_statement.proofs.Only.{only_on, only_stop, only_done}
 use Rattle.record_statement.proofs.statements_only.Goals as goal
 
@@ -12,7 +12,7 @@ unfolding Took
 returns-in_default c =
     let l = c in
     let s = l.args.s.now in
-    let told : Took s l.loop-left.at Malformed = rw c.in_default.is at c.take_statement.ensures in
+    let told : Took s l.loop-left.at None = rw c.in_default.is at c.take_statement.ensures in
     sym (l.loop-left.invariant.1 ∙ only_stop l.loop-left.left (drop l.loop-left.at s) c.loop-left-test.true told)
 
 pub loop-left-preserved : goal.loop-left-preserved
@@ -20,9 +20,9 @@ unfolding Took
 loop-left-preserved c =
     let l = c in
     let s = l.args.s.now in
-    let st = c.in-Statement.field-0 in
-    let next = c.in-Statement.next in
-    let told : Took s l.loop-left.at (Statement st next) = rw c.in-Statement.is at c.take_statement.ensures in (
+    let st = c.in-Some.field-0-0 in
+    let next = c.in-Some.next in
+    let told : Took s l.loop-left.at (Some (st, next)) = rw c.in-Some.is at c.take_statement.ensures in (
       told.1.0,
       l.loop-left.invariant.1 ∙ only_on l.loop-left.left (drop l.loop-left.at s) (part (as_statement s st) (drop next s))
           c.loop-left-test.true told.0,

@@ -16,16 +16,16 @@ returns-in_default c = sym (ring_broken _ _ _
 
 pub stake_of-requires : goal.stake_of-requires
 stake_of-requires c = (taken_sound c.args.stakes.now
-    c.in-Taken.total
-    (ap as_new_committee (sym c.in-Taken.is) ∙ c.new_committee.ensures)).0
+    c.in-Ok.total
+    (ap as_new_committee (sym c.in-Ok.is) ∙ c.new_committee.ensures)).0
 
 pub returns-then-not-is_quorum : goal.returns-then-not-is_quorum
 unfolding as_ring united
 returns-then-not-is_quorum c =
     let start = c.args in
     let taken = taken_sound c.args.stakes.now
-    c.in-Taken.total
-    (ap as_new_committee (sym c.in-Taken.is) ∙ c.new_committee.ensures) in
+    c.in-Ok.total
+    (ap as_new_committee (sym c.in-Ok.is) ∙ c.new_committee.ensures) in
     let all : stake_of start.stakes.now (united start.voters start.reachable) ≡ c.stake_of.result.0 = sym
     c.stake_of.ensures in
     let quorum : is_quorum start.stakes.now (stake_of start.stakes.now (united start.voters start.reachable)) ≡ false = rw all
@@ -37,8 +37,8 @@ unfolding united
 until_quorum-owners-requires c =
     let start = c.args in
     let taken = taken_sound c.args.stakes.now
-    c.in-Taken.total
-    (ap as_new_committee (sym c.in-Taken.is) ∙ c.new_committee.ensures) in
+    c.in-Ok.total
+    (ap as_new_committee (sym c.in-Ok.is) ∙ c.new_committee.ensures) in
     let all : stake_of start.stakes.now (united start.voters start.reachable) ≡ c.stake_of.result.0 = sym
     c.stake_of.ensures in
     let quorum : is_quorum start.stakes.now (stake_of start.stakes.now (united start.voters start.reachable)) ≡ true = rw all
@@ -46,15 +46,15 @@ until_quorum-owners-requires c =
     (taken.0, taken.1, quorum)
 
 pub stake_of-stake-requires : goal.stake_of-stake-requires
-stake_of-stake-requires c = (taken_sound c.args.stakes.now c.in-Taken.total
-    (ap as_new_committee (sym c.in-Taken.is) ∙ c.new_committee.ensures)).0
+stake_of-stake-requires c = (taken_sound c.args.stakes.now c.in-Ok.total
+    (ap as_new_committee (sym c.in-Ok.is) ∙ c.new_committee.ensures)).0
 
 pub returns : goal.returns
 unfolding as_ring united
 returns c =
     let start = c.args in
-    let taken = taken_sound c.args.stakes.now c.in-Taken.total
-    (ap as_new_committee (sym c.in-Taken.is) ∙ c.new_committee.ensures) in
+    let taken = taken_sound c.args.stakes.now c.in-Ok.total
+    (ap as_new_committee (sym c.in-Ok.is) ∙ c.new_committee.ensures) in
     let all : stake_of start.stakes.now (united start.voters start.reachable) ≡ c.stake_of.result.0 = sym
     c.stake_of.ensures in
     let quorum : is_quorum start.stakes.now (stake_of start.stakes.now (united start.voters start.reachable)) ≡ true = rw all

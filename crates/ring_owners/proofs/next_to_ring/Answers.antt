@@ -1,5 +1,4 @@
 use mathlib.Core.Path.{◌∙◌}
-use Prim.Native.Nat.{◌-◌}
 use native.Mathlib.Omega.{arith}
 use Rattle.ring_owners.proofs.Scans.{scan_start, scan_better, scan_worse, scan_end}
 use Rattle.ring_owners.proofs.next_to_ring.Goals.{then-most-stake, else-most-stake}

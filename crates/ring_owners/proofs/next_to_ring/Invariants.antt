@@ -5,6 +5,3 @@ use Rattle.ring_owners.proofs.next_to_ring.Given as goal
 
 abbrev pub invariant-loop-i : goal.invariant-loop-i
 invariant-loop-i l = (l.i ≤ length l.stakes) × Scanned l.stakes l.counted l.reachable l.i l.best l.most
-
-abbrev pub decreases-loop-i : goal.decreases-loop-i
-decreases-loop-i l = length l.stakes - l.i

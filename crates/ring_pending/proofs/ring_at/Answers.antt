@@ -19,7 +19,7 @@ returns-in_default c = let o = c in sym
 
 pub item_at-x-requires : goal.item_at-x-requires
 item_at-x-requires c = let o = c in
-    (o.requires.1.laid, index_found _ _ _ _ c.holding-found.ensures c.in-At.is)
+    (o.requires.1.laid, index_found _ _ _ _ c.holding-found.ensures c.in-Some.is)
 
 pub returns : goal.returns
 unfolding as_locator locator as_item
@@ -29,4 +29,4 @@ returns c =
     ∙ sym (ring_some _ _ _ _ (as_locator o.args.locator) _ _ o.requires.1
     c.lookup-p.ensures
     c.holding-found.ensures _ (as_item c.item_at-x.result)
-    c.in-At.is c.item_at-x.ensures)
+    c.in-Some.is c.item_at-x.ensures)

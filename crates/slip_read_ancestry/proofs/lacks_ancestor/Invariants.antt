@@ -11,6 +11,3 @@ use Rattle.slip_read_ancestry.proofs.lacks_ancestor.Given as goal
 abbrev pub invariant-loop-k : goal.invariant-loop-k
 invariant-loop-k l = (i : ℕ) → i < l.k → lost (supplied_blocks l.records)
     (get_or (block_at_place l.records l.order l.place).includes i no_reference) ≡ false
-
-abbrev pub decreases-loop-k : goal.decreases-loop-k
-decreases-loop-k l = l.count - l.k

@@ -1,5 +1,5 @@
 use mathlib.Core.Path.{◌≡◌, refl, subst}
-use Prim.Native.Nat.{ℕ, ◌-◌}
+use Prim.Native.Nat.{ℕ}
 use native.Mathlib.Omega.{arith}
 use lib.ListN.{length, length-set}
 use Rattle.final_readings_spec.specs.Answers.{as_reading}
@@ -7,7 +7,6 @@ use Rattle.slip_read_paths.proofs.Noting.{byte_of}
 use Rattle.slip_read_ancestry.specs.Lacking.{Lacking}
 use Rattle.slip_read_ancestry.proofs.Places.{right_falls}
 use Rattle.slip_read_ancestry.proofs.Lost.{lacking_none, lacking_more, lacking_all, lacking_old}
-use borrow.Author.Rules.{rules}
 use Rattle.slip_read_ancestry.proofs.note_lacking.Goals as goal
 
 pub returns-in-Old : goal.returns-in-Old

@@ -6,6 +6,3 @@ use Rattle.slip_read_ancestry.proofs.note_lacking.Given as goal
 
 abbrev pub invariant-loop-j : goal.invariant-loop-j
 invariant-loop-j l = Lacking l.records l.order l.j l.lacking × ((length l.lacking ≡ length l.initial.lacking) × (l.j ≤ length l.order))
-
-abbrev pub decreases-loop-j : goal.decreases-loop-j
-decreases-loop-j l = length l.order - l.j

@@ -1,10 +1,9 @@
-use mathlib.Core.Path.{sym, subst, ◌∙◌}
+use mathlib.Core.Path.{sym, ◌∙◌}
 use native.Mathlib.Omega.{arith}
 use Rattle.slip_read_certifier.specs.Step.{TookCertifier}
 use Rattle.slip_read_body.specs.Step.{TookCertifiers}
 use Rattle.slip_read_body.proofs.Certifying.{head_long}
 use Rattle.slip_read_body.proofs.Gathering.{gathering_start, gathering_none, gathering_falls, gathering_on, gathering_done}
-use borrow.Author.Rules.{rules}
 use Rattle.slip_read_body.proofs.take_certifiers.Goals as goal
 
 pub read_u16-count-requires : goal.read_u16-count-requires
@@ -25,27 +24,22 @@ take_certifier-requires c = (
   c.requires.1,
 )
 
-pub enum_told-1 : goal.enum_told-1
-enum_told-1 c = search rules
-
-pub returns-in_default : goal.returns-in_default
+pub returns-in_err-end : goal.returns-in_err-end
 unfolding TookCertifiers TookCertifier
-returns-in_default c =
-    gathering_none _ _ _ _ _ _ _ _ _ _ _ _ c.loop-i.invariant
-    (omega (arith, c.read_u16-count.ensures))
-    (subst (TookCertifier _ _ _ _ _ _ _ _) c.in_default.is c.take_certifier.ensures)
+returns-in_err-end c =
+    rw c.from_residual.ensures (gathering_none _ _ _ _ _ _ _ _ _ _ _ _ c.loop-i.invariant
+    (omega (arith, c.read_u16-count.ensures)) c.in_err-end.ensures)
 
 pub follows-requires : goal.follows-requires
 unfolding TookCertifier
 follows-requires c =
-    let one = subst (TookCertifier _ _ _ _ _ _ _ _) c.in-Certifier.is c.take_certifier.ensures in
+    let one = c.in_ok-end.ensures in
     (c.loop-i.invariant.back, omega (arith, one.long))
 
 pub returns-then-not-follows : goal.returns-then-not-follows
 unfolding TookCertifiers TookCertifier
 returns-then-not-follows c =
-    let one = subst (TookCertifier _ _ _ _ _ _ _ _) c.in-Certifier.is
-    c.take_certifier.ensures in
+    let one = c.in_ok-end.ensures in
     gathering_falls _ _ _ _ _ _ _ _ _ _ _ _ c.loop-i.invariant
     (omega (arith, c.read_u16-count.ensures)) _ _ one
     (sym c.follows.ensures ∙ c.if-not-follows.true)
@@ -53,15 +47,13 @@ returns-then-not-follows c =
 pub read_u64-author-requires : goal.read_u64-author-requires
 unfolding TookCertifier
 read_u64-author-requires c =
-    let one = subst (TookCertifier _ _ _ _ _ _ _ _) c.in-Certifier.is
-    c.take_certifier.ensures in
+    let one = c.in_ok-end.ensures in
     omega (arith, one.long)
 
 pub loop-i-preserved : goal.loop-i-preserved
 unfolding TookCertifier
 loop-i-preserved c =
-    let one = subst (TookCertifier _ _ _ _ _ _ _ _) c.in-Certifier.is
-    c.take_certifier.ensures in
+    let one = c.in_ok-end.ensures in
     gathering_on _ _ _ _ _ _ _ _ _ _ _ _ c.loop-i.invariant
     (omega (arith, c.read_u16-count.ensures)) _ _ one _ _ _
     (sym c.follows.ensures ∙ c.if-not-follows.false) c.read_u64-author.ensures c.with_author-authors.ensures c.worse-shown.ensures

@@ -5,6 +5,3 @@ use Rattle.slip_read_body.proofs.take_certifiers.Given as goal
 abbrev pub invariant-loop-i : goal.invariant-loop-i
 invariant-loop-i l = Gathering l.stakes l.slip l.records
     l.order l.votes l.lacking l.rejecting l.at l.authors l.shown l.last l.i
-
-abbrev pub decreases-loop-i : goal.decreases-loop-i
-decreases-loop-i l = l.count - l.i

@@ -4,7 +4,6 @@ use Rattle.slip_read_verdicts.specs.Verdict.{verdict}
 use Rattle.slip_read_paths.specs.Walk.{InPlace}
 use Rattle.slip_read_paths.proofs.Walks.{led_block, led_nowhere, led_missing, from_block, from_none, from_somewhere}
 use Rattle.slip_read_certifier.specs.Verdict.{own_verdict}
-use borrow.Author.Rules.{rules}
 use Rattle.slip_read_certifier.proofs.own_verdict.Goals as goal
 
 pub epoch_changed_at-requires : goal.epoch_changed_at-requires

@@ -7,7 +7,6 @@ use Rattle.slip_read_rejecters.specs.Rejecting.{InTable, Meeting}
 use Rattle.slip_read_certifier.specs.Verdict.{standing_verdict}
 use Rattle.slip_read_certifier.specs.Step.{Stands}
 use Rattle.slip_read_certifier.proofs.Standing.{stands_lost, stands_rejected, stands_kept}
-use borrow.Author.Rules.{rules}
 use Rattle.slip_read_certifier.proofs.standing_verdict.Goals as goal
 
 pub bounds-lacking-place : goal.bounds-lacking-place

@@ -14,7 +14,6 @@ use Rattle.slip_read_rejecters.proofs.Rejecters.{in_table}
 use Rattle.slip_read_certifier.specs.Step.{TookCertifier}
 use Rattle.slip_read_certifier.proofs.Certifying.{certifier_short, certifier_none}
 use Rattle.slip_read_certifier.proofs.Showing.{one_found, one_quorum}
-use borrow.Author.Rules.{rules}
 use Rattle.slip_read_certifier.proofs.take_certifier.Goals as goal
 
 pub returns-then-slip-at-lt49 : goal.returns-then-slip-at-lt49
@@ -40,10 +39,9 @@ take_voters-requires c = (
   ),
 )
 
-pub returns-in_default : goal.returns-in_default
+pub returns-in_err-end : goal.returns-in_err-end
 unfolding TookCertifier TookVoters
-returns-in_default c = certifier_none c.args.slip.now c.args.held.at (omega arith)
-    (subst (TookVoters _ _ _ _ _ _ _) c.in_default.is c.take_voters.ensures)
+returns-in_err-end c = rw c.from_residual.ensures (certifier_none c.args.slip.now c.args.held.at (omega arith) (c.in_err-end.ensures))
 
 pub own_verdict-requires : goal.own_verdict-requires
 own_verdict-requires c = (
@@ -62,8 +60,7 @@ unfolding TookCertifier TookVoters
 returns-then-shows-ne0 c =
     let a = c.args in
     let ready = c.requires.1 in
-    let read = subst (TookVoters _ _ _ _ _ _ _) c.in-Voters.is
-    c.take_voters.ensures in
+    let read = c.in_ok-end.ensures in
     let led = subst (λ (x : BlockReference). LedTo a.records.now a.order.now
     c.find-certifier.result
     (on_from to_block (named (supplied_blocks a.records.now) x)))
@@ -85,8 +82,7 @@ unfolding TookCertifier TookVoters
 returns-then-hold_quorum c =
     let a = c.args in
     let ready = c.requires.1 in
-    let read = subst (TookVoters _ _ _ _ _ _ _) c.in-Voters.is
-    c.take_voters.ensures in
+    let read = c.in_ok-end.ensures in
     let led = subst (λ (x : BlockReference). LedTo a.records.now a.order.now
     c.find-certifier.result
     (on_from to_block (named (supplied_blocks a.records.now) x)))
@@ -102,8 +98,7 @@ unfolding TookCertifier TookVoters
 returns c =
     let a = c.args in
     let ready = c.requires.1 in
-    let read = subst (TookVoters _ _ _ _ _ _ _) c.in-Voters.is
-    c.take_voters.ensures in
+    let read = c.in_ok-end.ensures in
     let led = subst (λ (x : BlockReference). LedTo a.records.now a.order.now
     c.find-certifier.result
     (on_from to_block (named (supplied_blocks a.records.now) x)))

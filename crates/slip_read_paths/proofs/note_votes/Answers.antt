@@ -2,7 +2,6 @@ use Rattle.slip_read_paths.proofs.Noting.{noted_none, noted_more, byte_of}
 use Rattle.final_spec.specs.Voters.{votes_for}
 use Rattle.record_spec.specs.Record.{block_in}
 use mathlib.Core.Path.{◌≡◌, refl, ap, ◌∙◌}
-use Prim.Native.Nat.{◌-◌}
 use native.Mathlib.Omega.{arith}
 use lib.ListN.{length, length-set}
 use Rattle.base.specs.Le.{Bytes}

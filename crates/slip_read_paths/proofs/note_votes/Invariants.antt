@@ -7,6 +7,3 @@ use Rattle.slip_read_paths.proofs.note_votes.Given as goal
 
 abbrev pub invariant-loop-j : goal.invariant-loop-j
 invariant-loop-j l = Noted l.records l.order (as_locator l.locator) l.j l.votes × ((length l.votes ≡ length l.initial.votes) × (l.j ≤ length l.order))
-
-abbrev pub decreases-loop-j : goal.decreases-loop-j
-decreases-loop-j l = length l.order - l.j

@@ -1,9 +1,7 @@
 use Rattle.slip_read_paths.specs.Walk.{to_place, ends, missing}
 use Rattle.slip_read_paths.proofs.Walks.{led_block, led_nowhere, led_missing, walks_on, walks_nowhere, walks_missing, walks_end}
 use mathlib.Core.Path.{refl, ◌∙◌}
-use Prim.Native.Nat.{◌-◌}
 use native.Mathlib.Omega.{arith}
-use borrow.Author.Rules.{rules}
 use Rattle.slip_read_paths.proofs.walk.Goals as goal
 
 pub loop-i-init : goal.loop-i-init

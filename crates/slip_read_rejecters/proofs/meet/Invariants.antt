@@ -6,6 +6,3 @@ use Rattle.slip_read_rejecters.proofs.meet.Given as goal
 
 abbrev pub invariant-loop-i : goal.invariant-loop-i
 invariant-loop-i l = (j : ℕ) → j < l.i → member l.a j && member l.b j ≡ false
-
-abbrev pub decreases-loop-i : goal.decreases-loop-i
-decreases-loop-i l = 128 - l.i

@@ -8,6 +8,3 @@ use Rattle.slip_read_rejecters.proofs.note_rejecters.Given as goal
 abbrev pub invariant-loop-j : goal.invariant-loop-j
 invariant-loop-j l = Rejecting l.records l.order (as_locator l.locator) l.j l.rejecting ×
     ((length l.rejecting ≡ length l.initial.rejecting) × (l.j ≤ length l.order))
-
-abbrev pub decreases-loop-j : goal.decreases-loop-j
-decreases-loop-j l = length l.order - l.j

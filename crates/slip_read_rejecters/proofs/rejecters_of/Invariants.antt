@@ -4,6 +4,3 @@ use Rattle.slip_read_rejecters.proofs.rejecters_of.Given as goal
 
 abbrev pub invariant-loop-k : goal.invariant-loop-k
 invariant-loop-k l = Joined l.records l.order l.place l.rejecting l.initial.found l.found l.k
-
-abbrev pub decreases-loop-k : goal.decreases-loop-k
-decreases-loop-k l = l.count - l.k

@@ -1,9 +1,7 @@
-use mathlib.Core.Path.{sym, subst, ◌∙◌}
-use Prim.Native.Nat.{◌-◌}
+use mathlib.Core.Path.{sym, ◌∙◌}
 use native.Mathlib.Omega.{arith}
 use Rattle.slip_read_voters.specs.Step.{TookVoter, TookVoters}
 use Rattle.slip_read_voters.proofs.Taking.{taking_start, taking_none, taking_falls, taking_on, taking_done}
-use borrow.Author.Rules.{rules}
 use Rattle.slip_read_voters.proofs.take_voters.Goals as goal
 
 pub loop-i-init : goal.loop-i-init
@@ -12,15 +10,15 @@ loop-i-init c = rw c.new-authors.ensures (taking_start _ _ _ _ _ _ _ c.requires.
 pub take_voter-requires : goal.take_voter-requires
 take_voter-requires c = c.loop-i.invariant.listed.inside
 
-pub returns-in_default : goal.returns-in_default
+pub returns-in_err-author : goal.returns-in_err-author
 unfolding TookVoters TookVoter
-returns-in_default c = taking_none _ _ _ _ _ _ _ _ _ _ _ _ c.loop-i.invariant c.loop-i-test.true
-    (subst (TookVoter c.args.slip.now c.loop-i.at) c.in_default.is c.take_voter.ensures)
+returns-in_err-author c = rw c.from_residual.ensures (taking_none _ _ _ _ _ _ _ _ _ _ _ _ c.loop-i.invariant c.loop-i-test.true
+    (c.in_err-author.ensures))
 
 pub returns-then-not-follows : goal.returns-then-not-follows
 unfolding TookVoters TookVoter
 returns-then-not-follows c =
-    let took = subst (TookVoter c.args.slip.now c.loop-i.at) c.in-Voter.is c.take_voter.ensures in
+    let took = c.in_ok-author.ensures in
     taking_falls _ _ _ _ _ _ _ _ _ _ _ _ c.loop-i.invariant
     c.loop-i-test.true _ _ took.0
     (sym c.follows.ensures ∙ c.if-not-follows.true)
@@ -28,25 +26,25 @@ returns-then-not-follows c =
 pub overflow_add-path : goal.overflow_add-path
 unfolding TookVoter
 overflow_add-path c =
-    let took = subst (TookVoter c.args.slip.now c.loop-i.at) c.in-Voter.is c.take_voter.ensures in
+    let took = c.in_ok-author.ensures in
     omega (arith, took.1.0, took.1.1)
 
 pub slice_bounds-voter_verdict-count : goal.slice_bounds-voter_verdict-count
 unfolding TookVoter
 slice_bounds-voter_verdict-count c =
-    let took = subst (TookVoter c.args.slip.now c.loop-i.at) c.in-Voter.is c.take_voter.ensures in
+    let took = c.in_ok-author.ensures in
     took.1.0
 
 pub slice_bounds-voter_verdict-start : goal.slice_bounds-voter_verdict-start
 unfolding TookVoter
 slice_bounds-voter_verdict-start c =
-    let took = subst (TookVoter c.args.slip.now c.loop-i.at) c.in-Voter.is c.take_voter.ensures in
+    let took = c.in_ok-author.ensures in
     took.1.0
 
 pub slice_bounds-voter_verdict-end : goal.slice_bounds-voter_verdict-end
 unfolding TookVoter
 slice_bounds-voter_verdict-end c =
-    let took = subst (TookVoter c.args.slip.now c.loop-i.at) c.in-Voter.is c.take_voter.ensures in
+    let took = c.in_ok-author.ensures in
     took.1.1
 
 pub voter_verdict-own-requires : goal.voter_verdict-own-requires
@@ -55,8 +53,7 @@ voter_verdict-own-requires c = c.requires.1
 pub loop-i-preserved : goal.loop-i-preserved
 unfolding TookVoter
 loop-i-preserved c =
-    let took = subst (TookVoter c.args.slip.now c.loop-i.at) c.in-Voter.is
-    c.take_voter.ensures in
+    let took = c.in_ok-author.ensures in
     taking_on _ _ _ _ _ _ _ _ _ _ _ _ c.loop-i.invariant
     c.loop-i-test.true _ _ took.0
     c.voter_verdict-own.result _ _ (sym c.follows.ensures ∙ c.if-not-follows.false) took.1.1

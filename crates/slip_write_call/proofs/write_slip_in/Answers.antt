@@ -24,13 +24,13 @@ returns-in_default c = let a = c.args in
 
 pub in_order-requires : goal.in_order-requires
 in_order-requires c = let a = c.args in
-    let t = taken_sound a.stakes.now c.in-Taken.total (ap as_new_committee (sym c.in-Taken.is) ∙ c.new_committee.ensures) in
+    let t = taken_sound a.stakes.now c.in-Ok.total (ap as_new_committee (sym c.in-Ok.is) ∙ c.new_committee.ensures) in
     t.0
 
 pub returns-then-not-in_order : goal.returns-then-not-in_order
 unfolding as_slip_answer
 returns-then-not-in_order c = let a = c.args in
-    let t = taken_sound a.stakes.now c.in-Taken.total (ap as_new_committee (sym c.in-Taken.is) ∙ c.new_committee.ensures) in
+    let t = taken_sound a.stakes.now c.in-Ok.total (ap as_new_committee (sym c.in-Ok.is) ∙ c.new_committee.ensures) in
     let e = slip_disordered (as_reading a.reading) a.stakes.now a.store.now a.out.now (as_locator a.locator) t.0
     (sym c.in_order.ensures ∙ c.if-not-in_order.true) in
     record { result_value = ap (λ (x : Written). x.answer) e; out_after = ap (λ (x : Written). x.out) e }
@@ -48,7 +48,7 @@ slice_bounds-write_found-end c = let a = c.args in
 
 pub write_found-requires : goal.write_found-requires
 write_found-requires c = let a = c.args in
-    let t = taken_sound a.stakes.now c.in-Taken.total (ap as_new_committee (sym c.in-Taken.is) ∙ c.new_committee.ensures) in
+    let t = taken_sound a.stakes.now c.in-Ok.total (ap as_new_committee (sym c.in-Ok.is) ∙ c.new_committee.ensures) in
     let o : store_in_order a.stakes.now a.store.now ≡ true = sym c.in_order.ensures ∙ c.if-not-in_order.false in
     let p = c.sorted_positions-count.ensures in
     let laid = order_laid a.stakes.now a.store.now o in (

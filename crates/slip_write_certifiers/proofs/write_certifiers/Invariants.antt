@@ -15,7 +15,3 @@ invariant-loop-i l =
     × ((length l.out ≡ length l.initial.out)
     × ((loc : TransactionLocator) → Distances l.store l.order loc l.near l.steps (length l.order)
     → sets l.initial.out l.at (certifiers_bytes l.store l.order loc l.certifiers l.n) ≡ sets l.out l.to (bytes_on l.store l.order loc l.certifiers l.n l.i))))
-
-abbrev pub decreases-loop-i : goal.decreases-loop-i
-decreases-loop-i l =
-    l.n - l.i

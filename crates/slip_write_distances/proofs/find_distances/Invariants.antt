@@ -6,6 +6,3 @@ use Rattle.slip_write_distances.proofs.find_distances.Given as goal
 
 abbrev pub invariant-loop-k : goal.invariant-loop-k
 invariant-loop-k l = (l.k ≤ length l.order) × Distances l.store l.order (as_locator l.locator) l.near l.steps l.k
-
-abbrev pub decreases-loop-k : goal.decreases-loop-k
-decreases-loop-k l = length l.order - l.k

@@ -5,6 +5,3 @@ use Rattle.slip_write_distances.proofs.read_block.Given as goal
 
 abbrev pub invariant-loop-j : goal.invariant-loop-j
 invariant-loop-j l = (l.j ≤ l.count) × Reading l.store l.order (as_locator l.locator) l.initial.near l.initial.steps l.k l.near l.steps l.j
-
-abbrev pub decreases-loop-j : goal.decreases-loop-j
-decreases-loop-j l = l.count - l.j

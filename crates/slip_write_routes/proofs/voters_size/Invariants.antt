@@ -6,6 +6,3 @@ use Rattle.slip_write_routes.proofs.voters_size.Given as goal
 
 abbrev pub invariant-loop-a : goal.invariant-loop-a
 invariant-loop-a l = (l.a ≤ 128) × ((l.size ≤ 65544 * l.a) × (l.size + size_from l.near l.k l.voters l.a ≡ voters_size l.near l.k l.voters))
-
-abbrev pub decreases-loop-a : goal.decreases-loop-a
-decreases-loop-a l = 128 - l.a

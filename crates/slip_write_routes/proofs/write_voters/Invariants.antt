@@ -15,6 +15,3 @@ invariant-loop-a l =
     × ((length l.out ≡ length l.initial.out)
     × ((loc : TransactionLocator) → Distances l.store l.order loc l.near l.steps (length l.order)
     → sets l.initial.out l.at (voters_at l.store l.order loc l.k l.voters) ≡ sets l.out l.to (bytes_from l.store l.order loc l.k l.voters l.a))))
-
-abbrev pub decreases-loop-a : goal.decreases-loop-a
-decreases-loop-a l = 128 - l.a

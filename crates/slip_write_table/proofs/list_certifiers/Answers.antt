@@ -50,13 +50,6 @@ note_certifier-requires c = omega (
   c.loop-i-test.true,
 )
 
-pub overflow_add-i : goal.overflow_add-i
-overflow_add-i c = omega (
-  arith,
-  c.loop-i-test.true,
-  c.well_formed,
-)
-
 pub loop-i-preserved : goal.loop-i-preserved
 loop-i-preserved c = let a = c.args in
     let q = c.requires in

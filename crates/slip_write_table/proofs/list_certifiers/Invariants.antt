@@ -12,6 +12,3 @@ invariant-loop-i l =
     ((l.i ≤ length l.positions) × (length l.certifiers ≡ length l.initial.certifiers))
     × (RemembersBoth l.store l.order (as_locator l.locator) l.memo
     × Listed (as_reading l.reading) l.store l.order (as_locator l.locator) l.positions l.certifiers l.i)
-
-abbrev pub decreases-loop-i : goal.decreases-loop-i
-decreases-loop-i l = length l.positions - l.i

@@ -1,4 +1,3 @@
-use Prim.Native.Nat.{◌-◌}
 use mathlib.Core.Path.{sym}
 use native.Mathlib.Omega.{arith}
 use Rattle.sorted_walk.proofs.Lists.{rising_start, rising_next, sorted_cut, sorted_yes, sorted_no, compared}

@@ -5,6 +5,3 @@ use Rattle.sorted_walk.proofs.is_sorted_list.Given as goal
 
 abbrev pub invariant-loop-i : goal.invariant-loop-i
 invariant-loop-i l = (0 < l.i) × Rising l.locators l.i
-
-abbrev pub decreases-loop-i : goal.decreases-loop-i
-decreases-loop-i l = length l.locators - l.i

@@ -4,6 +4,3 @@ use Rattle.sorted_walk.proofs.step_all.Given as goal
 
 abbrev pub invariant-loop-k : goal.invariant-loop-k
 invariant-loop-k l = Answering l.stakes l.store l.locators l.replies l.k l.at l.p × (l.k ≤ l.steps)
-
-abbrev pub decreases-loop-k : goal.decreases-loop-k
-decreases-loop-k l = l.steps - l.k

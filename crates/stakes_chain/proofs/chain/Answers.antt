@@ -1,8 +1,6 @@
-use Prim.Native.Nat.{◌-◌}
 use mathlib.Core.Path.{refl, sym, ◌∙◌}
 use native.Mathlib.Omega.{arith}
 use lib.ListN.{length-set}
-use borrow.Author.Tests.{not-true, not-false}
 use Rattle.stakes_chain.specs.Layout.{first_index, next_index}
 use Rattle.stakes_chain.specs.Chain.{chain_of}
 use Rattle.stakes_chain.proofs.Chains.{long_enough}

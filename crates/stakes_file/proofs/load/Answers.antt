@@ -5,7 +5,6 @@ use Rattle.stakes_chain.proofs.Chains.{chain_found, chained_inside}
 use Rattle.stakes_file.specs.Load.{loaded_into}
 use Rattle.stakes_file.specs.Answers.{as_load}
 use Rattle.stakes_file.proofs.Loaded.{load_broken, load_some, load_nothing, some_bytes, chain_fits, chain_told, chain_broken}
-use borrow.Author.Rules.{rules}
 use Rattle.stakes_file.proofs.load.Goals as goal
 
 pub returns-then-file-eq0 : goal.returns-then-file-eq0
@@ -27,21 +26,21 @@ returns-in_default c =
 pub slice_bounds-indexes-end : goal.slice_bounds-indexes-end
 slice_bounds-indexes-end c =
     let walk = c.chain in
-    omega (arith, chain_fits _ _ c.in-Members.is walk.ensures.0, walk.auto.indexes)
+    omega (arith, chain_fits _ _ c.in-Some.is walk.ensures.0, walk.auto.indexes)
 
 pub slice_bounds-load_along-end : goal.slice_bounds-load_along-end
 slice_bounds-load_along-end c =
     let walk = c.chain in
-    sym (length-take-le c.in-Members.n walk.new.indexes
-    (omega (arith, chain_fits _ _ c.in-Members.is walk.ensures.0, walk.auto.indexes)))
+    sym (length-take-le c.in-Some.n walk.new.indexes
+    (omega (arith, chain_fits _ _ c.in-Some.is walk.ensures.0, walk.auto.indexes)))
 
 pub load_along-requires : goal.load_along-requires
 load_along-requires c =
     let start = c.args in
     let walk = c.chain in
-    let n = c.in-Members.n in
-    let fits = chain_fits _ _ c.in-Members.is walk.ensures.0 in (
-      chained_inside _ _ (chain_found start.file.now _ (chain_told start.file.now _ _ walk.ensures.1 n c.in-Members.is)),
+    let n = c.in-Some.n in
+    let fits = chain_fits _ _ c.in-Some.is walk.ensures.0 in (
+      chained_inside _ _ (chain_found start.file.now _ (chain_told start.file.now _ _ walk.ensures.1 n c.in-Some.is)),
       omega (arith, length-take-le n walk.new.indexes (omega (arith, walk.auto.indexes))),
     )
 
@@ -49,7 +48,7 @@ pub returns : goal.returns
 returns c =
     let start = c.args in
     let walk = c.chain in
-    let n = c.in-Members.n in
+    let n = c.in-Some.n in
     let e = load_some start.file.now _ (some_bytes start.file.now (λ z. omega arith))
-    (chain_told start.file.now _ _ walk.ensures.1 n c.in-Members.is) in
+    (chain_told start.file.now _ _ walk.ensures.1 n c.in-Some.is) in
     record { result_value = c.load_along.ensures.result_value ∙ (rw e); stakes_after = c.load_along.ensures.stakes_after ∙ (rw e) }

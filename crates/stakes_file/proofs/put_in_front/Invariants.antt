@@ -6,6 +6,3 @@ use Rattle.stakes_file.proofs.put_in_front.Given as goal
 
 abbrev pub invariant-loop-i : goal.invariant-loop-i
 invariant-loop-i l = (l.i ≤ length l.members) × ((length l.stakes ≡ length l.initial.stakes) × (l.stakes ≡ sets l.initial.stakes 0 (take l.i l.members)))
-
-abbrev pub decreases-loop-i : goal.decreases-loop-i
-decreases-loop-i l = length l.members - l.i

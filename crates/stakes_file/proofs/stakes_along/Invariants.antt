@@ -8,6 +8,3 @@ use Rattle.stakes_file.proofs.stakes_along.Given as goal
 abbrev pub invariant-loop-k : goal.invariant-loop-k
 invariant-loop-k l = (l.k ≤ length l.indexes) ×
     ((length l.stakes ≡ length l.initial.stakes) × (l.stakes ≡ sets l.initial.stakes 0 (take l.k (members_at l.file l.indexes))))
-
-abbrev pub decreases-loop-k : goal.decreases-loop-k
-decreases-loop-k l = length l.indexes - l.k

@@ -10,6 +10,3 @@ use Rattle.stakes_names.proofs.differs.Given as goal
 abbrev pub invariant-loop-j : goal.invariant-loop-j
 invariant-loop-j l =
     all_of (λ n. not (same l.name n)) (map (name_at l.file) l.indexes) ≡ all_of (λ n. not (same l.name n)) (map (name_at l.file) (drop l.j l.indexes))
-
-abbrev pub decreases-loop-j : goal.decreases-loop-j
-decreases-loop-j l = length l.indexes - l.j

@@ -6,6 +6,3 @@ use Rattle.stakes_names.proofs.good_name.Given as goal
 
 abbrev pub invariant-loop-i : goal.invariant-loop-i
 invariant-loop-i l = (0 < l.i) × ((l.i ≤ length l.name) × (good_name l.name ≡ padded (drop (l.i - 1) l.name)))
-
-abbrev pub decreases-loop-i : goal.decreases-loop-i
-decreases-loop-i l = length l.name - l.i

@@ -8,6 +8,3 @@ use Rattle.store_chain.proofs.chain_right.Given as goal
 abbrev pub invariant-loop-k : goal.invariant-loop-k
 invariant-loop-k l = Visiting l.store (records_of l.store) l.k l.at l.last l.order ×
     ((length l.order ≡ length l.initial.order) × (l.k ≤ length l.starts))
-
-abbrev pub decreases-loop-k : goal.decreases-loop-k
-decreases-loop-k l = length l.starts - l.k

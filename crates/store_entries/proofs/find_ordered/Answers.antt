@@ -14,15 +14,15 @@ returns-in_default c =
 pub offset_bounds-order-k : goal.offset_bounds-order-k
 offset_bounds-order-k c =
     let start = c in
-    omega (arith, (order_at _ start.requires.0 _ start.requires.1 _ _ _ c.in-At.is c.find_place.ensures).0)
+    omega (arith, (order_at _ start.requires.0 _ start.requires.1 _ _ _ c.in-Ok.is c.find_place.ensures).0)
 
 pub bounds-order-k : goal.bounds-order-k
 bounds-order-k c =
     let start = c in
-    (order_at _ start.requires.0 _ start.requires.1 _ _ _ c.in-At.is c.find_place.ensures).0
+    (order_at _ start.requires.0 _ start.requires.1 _ _ _ c.in-Ok.is c.find_place.ensures).0
 
 pub returns : goal.returns
 returns c =
     let start = c in
-    let there = order_at _ start.requires.0 _ start.requires.1 _ _ _ c.in-At.is c.find_place.ensures in
+    let there = order_at _ start.requires.0 _ start.requires.1 _ _ _ c.in-Ok.is c.find_place.ensures in
     found_there _ start.requires.0 _ start.requires.1 _ _ there.0 there.1

@@ -6,6 +6,3 @@ use Rattle.store_form.proofs.entries_readable.Given as goal
 
 abbrev pub invariant-loop-i : goal.invariant-loop-i
 invariant-loop-i l = Walking l.store l.i l.at l.starts × ((length l.starts ≡ length l.initial.starts) × ((l.i ≤ l.count) × (l.at ≤ length l.store)))
-
-abbrev pub decreases-loop-i : goal.decreases-loop-i
-decreases-loop-i l = l.count - l.i

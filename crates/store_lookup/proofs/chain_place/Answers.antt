@@ -13,11 +13,11 @@ returns-in_default c =
 pub position_before-below-requires : goal.position_before-below-requires
 position_before-below-requires c =
     let start = c in
-    goes_within _ start.requires.0 _ start.requires.1.0 _ _ _ c.in-Before.is c.find_place.ensures
+    goes_within _ start.requires.0 _ start.requires.1.0 _ _ _ c.in-Err.is c.find_place.ensures
 
 pub returns : goal.returns
 returns c =
     let start = c in
     rw (c.position_before-below.ensures, c.position_at-above.ensures)
-    (goes_between _ start.requires.0 _ start.requires.1.0 _ _ _ c.in-Before.is
+    (goes_between _ start.requires.0 _ start.requires.1.0 _ _ _ c.in-Err.is
     c.find_place.ensures)

@@ -13,8 +13,8 @@ use Rattle.store_spec.proofs.Search.{laid_out_lem}
 use Rattle.store_order.proofs.Accepting.{accepting_start, accepting_on, accepting_stop, accepting_end}
 use Rattle.store_order.proofs.accepted_in_turn.Goals as goal
 
-pub loop-i-init : goal.loop-i-init
-loop-i-init c = (
+pub loop-start-init : goal.loop-start-init
+loop-start-init c = (
   omega arith,
   accepting_start c.args.stakes.now
       (records_of c.args.store.now),
@@ -23,15 +23,15 @@ loop-i-init c = (
 pub entry_accepted-requires : goal.entry_accepted-requires
 entry_accepted-requires c =
     let a = c.args in
-    let l = c.loop-i in
+    let l = c.loop-start in
     let k = c.requires in (
       k.0,
       (
         k.1.0,
         (
           k.1.1.0,
-          place_entry a.store.now (laid_out_lem a.store.now k.1.0).tested a.starts.now k.1.1.1 (get_or a.starts.now l.i 0)
-              (is_in_lem (get_or a.starts.now l.i 0) a.starts.now l.i c.loop-i-test.true refl),
+          place_entry a.store.now (laid_out_lem a.store.now k.1.0).tested a.starts.now k.1.1.1 (get_or a.starts.now l.start-index 0)
+              (is_in_lem (get_or a.starts.now l.start-index 0) a.starts.now l.start-index c.loop-start-test.true refl),
         ),
       ),
     )
@@ -39,31 +39,31 @@ entry_accepted-requires c =
 pub returns-then-not-entry_accepted : goal.returns-then-not-entry_accepted
 returns-then-not-entry_accepted c =
     let a = c.args in
-    let l = c.loop-i in
+    let l = c.loop-start in
     let c₀ : List ℕ = a.stakes.now in
     let rs : List Record = records_of a.store.now in
     let q : a.starts.now ≡ positions rs = c.requires.1.1.1 in
-    let inside : l.i < length rs = omega (arith, ap length q, length_positions rs) in
-    let decided : c.entry_accepted.result ≡ accepted_at c₀ rs (get_or (positions rs) l.i 0) = c.entry_accepted.ensures ∙ ap
-    (λ (x : List ℕ). accepted_at c₀ rs (get_or x l.i 0)) q in
-    sym (accepting_stop c₀ rs l.i l.invariant.1 inside (sym decided ∙ c.if-not-entry_accepted.true))
+    let inside : l.start-index < length rs = omega (arith, ap length q, length_positions rs) in
+    let decided : c.entry_accepted.result ≡ accepted_at c₀ rs (get_or (positions rs) l.start-index 0) = c.entry_accepted.ensures ∙ ap
+    (λ (x : List ℕ). accepted_at c₀ rs (get_or x l.start-index 0)) q in
+    sym (accepting_stop c₀ rs l.start-index l.invariant.1 inside (sym decided ∙ c.if-not-entry_accepted.true))
 
-pub loop-i-preserved : goal.loop-i-preserved
-loop-i-preserved c =
+pub loop-start-preserved : goal.loop-start-preserved
+loop-start-preserved c =
     let a = c.args in
-    let l = c.loop-i in
+    let l = c.loop-start in
     let c₀ : List ℕ = a.stakes.now in
     let rs : List Record = records_of a.store.now in
     let q : a.starts.now ≡ positions rs = c.requires.1.1.1 in
-    let inside : l.i < length rs = omega (arith, ap length q, length_positions rs) in
-    let decided : c.entry_accepted.result ≡ accepted_at c₀ rs (get_or (positions rs) l.i 0) = c.entry_accepted.ensures ∙ ap
-    (λ (x : List ℕ). accepted_at c₀ rs (get_or x l.i 0)) q in
-    (omega arith, accepting_on c₀ rs l.i l.invariant.1 inside (sym decided ∙ c.if-not-entry_accepted.false))
+    let inside : l.start-index < length rs = omega (arith, ap length q, length_positions rs) in
+    let decided : c.entry_accepted.result ≡ accepted_at c₀ rs (get_or (positions rs) l.start-index 0) = c.entry_accepted.ensures ∙ ap
+    (λ (x : List ℕ). accepted_at c₀ rs (get_or x l.start-index 0)) q in
+    (omega arith, accepting_on c₀ rs l.start-index l.invariant.1 inside (sym decided ∙ c.if-not-entry_accepted.false))
 
 pub returns : goal.returns
 returns c =
     let a = c.args in
-    let l = c.loop-i in
+    let l = c.loop-start in
     let rs : List Record = records_of a.store.now in
-    sym (accepting_end a.stakes.now rs l.i l.invariant.1 (omega
+    sym (accepting_end a.stakes.now rs l.start-index l.invariant.1 (omega
     (arith, ap length c.requires.1.1.1, length_positions rs)))

@@ -14,7 +14,7 @@ accepted_in_turn-requires c =
     let m = c in
     let o = m in
     let k = o.args.stakes.now in
-    ((o.requires.0, (taken_sound k c.in-Taken.total (rw c.in-Taken.is at m.new_committee.ensures)).1), o.requires.1)
+    ((o.requires.0, (taken_sound k c.in-Ok.total (rw c.in-Ok.is at m.new_committee.ensures)).1), o.requires.1)
 
 pub returns : goal.returns
 returns c = c.accepted_in_turn.ensures

@@ -3,6 +3,7 @@ use native.Mathlib.Omega.{arith}
 use Rattle.base.specs.Lists.{all_of}
 use Rattle.base.specs.Le.{Bytes}
 use Rattle.base.specs.Checks.{refusal}
+use Rattle.base.proofs.Refusals.{err_not_zero, no_err_zero}
 use Rattle.record_spec.specs.Record.{block_in}
 use Rattle.record_spec.specs.Verify.{head_checks, body_checks}
 use Rattle.store_spec.specs.Layout.{entries}
@@ -34,9 +35,9 @@ head_refusal-requires c = rw (record-part c.args.store.now
     (entry_room c.args.store.now c.args.at
     c.requires.1.1.1).formed
 
-pub returns-then-head_refusal-ne0 : goal.returns-then-head_refusal-ne0
+pub returns-then-is_err : goal.returns-then-is_err
 unfolding block_at
-returns-then-head_refusal-ne0 c =
+returns-then-is_err c =
     let head = c.head_refusal.ensures ∙ ap (λ (x : Bytes). refusal
     (head_checks c.args.stakes.now (block_in x)))
     (record-part c.args.store.now
@@ -45,7 +46,7 @@ returns-then-head_refusal-ne0 c =
     sym (head_refused c.args.stakes.now
     c.args.store.now c.args.at
     c.requires.1.0 c.requires.1.1.1
-    (λ z. c.if-head_refusal-ne0.true (head ∙ z)))
+    (λ z. err_not_zero _ (sym c.is_err.ensures.value ∙ c.if-is_err.true) (head ∙ z)))
 
 pub slice_bounds-body_refusal-end : goal.slice_bounds-body_refusal-end
 slice_bounds-body_refusal-end c = omega (
@@ -69,9 +70,9 @@ body_refusal-requires c = (
   c.requires.0.1,
 )
 
-pub returns-then-body_refusal-ne0 : goal.returns-then-body_refusal-ne0
+pub returns-then-is_err-2 : goal.returns-then-is_err-2
 unfolding block_at
-returns-then-body_refusal-ne0 c =
+returns-then-is_err-2 c =
     let head = c.head_refusal.ensures ∙ ap
     (λ (x : Bytes). refusal (head_checks c.args.stakes.now
     (block_in x))) (record-part c.args.store.now
@@ -86,8 +87,8 @@ returns-then-body_refusal-ne0 c =
     c.args.store.now
     c.args.at
     c.requires.1.0
-    c.requires.1.1.1 (sym head ∙ c.if-head_refusal-ne0.false)
-    (λ z. c.if-body_refusal-ne0.true (body ∙ z)))
+    c.requires.1.1.1 (sym head ∙ no_err_zero _ (sym c.is_err.ensures.value ∙ c.if-is_err.false))
+    (λ z. err_not_zero _ (sym c.is_err-2.ensures.value ∙ c.if-is_err-2.true) (body ∙ z)))
 
 pub slice_bounds-includes_before-end : goal.slice_bounds-includes_before-end
 slice_bounds-includes_before-end c = omega (
@@ -140,4 +141,4 @@ returns c =
     c.args.at
     c.requires.1.0
     c.requires.1.1.1
-    (sym head ∙ c.if-head_refusal-ne0.false) (sym body ∙ c.if-body_refusal-ne0.false))
+    (sym head ∙ no_err_zero _ (sym c.is_err.ensures.value ∙ c.if-is_err.false)) (sym body ∙ no_err_zero _ (sym c.is_err-2.ensures.value ∙ c.if-is_err-2.false)))

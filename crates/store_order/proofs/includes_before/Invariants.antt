@@ -11,6 +11,3 @@ use Rattle.store_order.proofs.includes_before.Given as goal
 abbrev pub invariant-loop-k : goal.invariant-loop-k
 invariant-loop-k l = (l.k ≤ l.count) × (all_of (stored_before (entries (records_of l.store)) l.at) (block_in l.rec).includes ≡ all_of
     (stored_before (entries (records_of l.store)) l.at) (drop l.k (block_in l.rec).includes))
-
-abbrev pub decreases-loop-k : goal.decreases-loop-k
-decreases-loop-k l = l.count - l.k

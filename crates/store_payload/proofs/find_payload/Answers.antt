@@ -19,13 +19,13 @@ returns-in_default c =
 
 pub in_order-requires : goal.in_order-requires
 in_order-requires c =
-    (taken_sound c.args.stakes.now c.in-Taken.field-0 c.in-Taken.ensures).0
+    (taken_sound c.args.stakes.now c.in-Ok.field-0 c.in-Ok.ensures).0
 
 pub returns-then-not-in_order : goal.returns-then-not-in_order
 unfolding as_place place_within
 returns-then-not-in_order c =
     let a = c.args in
-    let sound = (taken_sound a.stakes.now c.in-Taken.field-0 c.in-Taken.ensures).0 in
+    let sound = (taken_sound a.stakes.now c.in-Ok.field-0 c.in-Ok.ensures).0 in
     record {
       result_value = place_disordered a.stakes.now a.store.now (as_locator a.locator) sound (sym c.in_order.ensures ∙ c.if-not-in_order.true);
       result_value_2 = refl;
@@ -40,7 +40,7 @@ pub returns-in_default-stored_payload : goal.returns-in_default-stored_payload
 unfolding as_place place_within as_share
 returns-in_default-stored_payload c =
     let a = c.args in
-    let sound = (taken_sound a.stakes.now c.in-Taken.field-0 c.in-Taken.ensures).0 in
+    let sound = (taken_sound a.stakes.now c.in-Ok.field-0 c.in-Ok.ensures).0 in
     let order = sym c.in_order.ensures ∙ c.if-not-in_order.false in record {
       result_value = place_none a.stakes.now a.store.now (as_locator a.locator) sound order
           (sym c.stored_payload.ensures.result_value ∙ ap as_share c.in_default-stored_payload.is);
@@ -51,10 +51,10 @@ pub returns : goal.returns
 unfolding as_place place_within as_share share_within
 returns c =
     let a = c.args in
-    let sound = (taken_sound a.stakes.now c.in-Taken.field-0 c.in-Taken.ensures).0 in
+    let sound = (taken_sound a.stakes.now c.in-Ok.field-0 c.in-Ok.ensures).0 in
     let order = sym c.in_order.ensures ∙ c.if-not-in_order.false in
-    let inside = c.in-Payload.ensures.result_value_2 in record {
-      result_value = place_some a.stakes.now a.store.now (as_locator a.locator) sound order (record { start = c.in-Payload.start; count = c.in-Payload.len })
-          (sym c.in-Payload.ensures.result_value);
+    let inside = c.in-Some.ensures.result_value_2 in record {
+      result_value = place_some a.stakes.now a.store.now (as_locator a.locator) sound order (record { start = c.in-Some.start; count = c.in-Some.len })
+          (sym c.in-Some.ensures.result_value);
       result_value_2 = inside;
     }

@@ -5,6 +5,3 @@ use Rattle.store_payload.proofs.find_share.Given as goal
 
 abbrev pub invariant-loop-i : goal.invariant-loop-i
 invariant-loop-i l = (l.cursor ≡ cursor_at l.rec l.i) × (l.i ≤ l.offset)
-
-abbrev pub decreases-loop-i : goal.decreases-loop-i
-decreases-loop-i l = l.offset - l.i

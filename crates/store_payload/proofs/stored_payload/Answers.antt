@@ -63,32 +63,32 @@ find_share-requires c =
     (entry_room a.store.now at (payload_entry a.store.now c.requires (as_locator a.locator) at
     c.lookup-at.ensures c.if-at-eq0.false)).formed
 
-pub returns-in_default : goal.returns-in_default
+pub returns-in_err-start : goal.returns-in_err-start
 unfolding as_share share_within as_locator locator block_at
-returns-in_default c =
+returns-in_err-start c =
     let a = c.args in
     let at = c.lookup-at.result in
     let told = c.find_share.ensures.result_value ∙ ap (λ (x : Bytes). share_stretch (statement_start x a.locator.offset)
     (get_elem? (block_in x).statements a.locator.offset))
-    (record-part a.store.now at c.record_end-end.result c.record_end-end.ensures) in record {
+    (record-part a.store.now at c.record_end-end.result c.record_end-end.ensures) in rw c.from_residual.ensures (record {
       result_value = sym (payload_found a.store.now c.requires (as_locator a.locator) at
           c.lookup-at.ensures c.if-at-eq0.false none
-          (sym (ap as_share c.in_default.is) ∙ told));
+          (sym (ap as_share c.in_err-start.was) ∙ told));
       result_value_2 = refl;
-    }
+    })
 
 pub overflow_add-result : goal.overflow_add-result
 unfolding as_locator locator share_within
 overflow_add-result c =
     let a = c.args in
     let at = c.lookup-at.result in
-    let inside = rw c.in-Payload.is at c.find_share.ensures.result_value_2 in
+    let inside = rw c.in_ok-start.was at c.find_share.ensures.result_value_2 in
     omega (
       arith,
       (entry_room a.store.now at (payload_entry a.store.now
           c.requires (as_locator a.locator) at
           c.lookup-at.ensures c.if-at-eq0.false)).inside,
-      leb-true (c.in-Payload.start + c.in-Payload.len) _ inside,
+      leb-true (c.in_ok-start.start + c.in_ok-start.len) _ inside,
       length-take
           (c.record_end-end.result - (at + 8)) (drop (at + 8) a.store.now),
       c.record_end-end.ensures,
@@ -99,19 +99,19 @@ unfolding as_share share_within as_locator locator block_at
 returns c =
     let a = c.args in
     let at = c.lookup-at.result in
-    let start = c.in-Payload.start in
-    let count = c.in-Payload.len in
+    let start = c.in_ok-start.start in
+    let count = c.in_ok-start.len in
     let told = c.find_share.ensures.result_value ∙ ap
     (λ (x : Bytes). share_stretch (statement_start x a.locator.offset) (get_elem? (block_in x).statements a.locator.offset))
     (record-part a.store.now at c.record_end-end.result
     c.record_end-end.ensures) in
-    let inside = rw c.in-Payload.is at c.find_share.ensures.result_value_2 in
+    let inside = rw c.in_ok-start.was at c.find_share.ensures.result_value_2 in
     let room = (entry_room a.store.now at (payload_entry a.store.now c.requires
     (as_locator a.locator) at c.lookup-at.ensures
     c.if-at-eq0.false)).inside in record {
       result_value = sym (payload_found a.store.now c.requires (as_locator a.locator) at
           c.lookup-at.ensures c.if-at-eq0.false
-          (some (record { start = start; count = count })) (sym (ap as_share c.in-Payload.is) ∙ told));
+          (some (record { start = start; count = count })) (sym (ap as_share c.in_ok-start.was) ∙ told));
       result_value_2 = le-leb (at + 8 + start + count) (length a.store.now) (omega (
         arith,
         room,

@@ -1,6 +1,6 @@
 use mathlib.Core.Path.{◌≡◌, sym, ap, ◌∙◌}
 use mathlib.Core.Bool.{true}
-use mathlib.Core.Option.{none, some}
+use mathlib.Core.Option.{none}
 use native.Mathlib.Omega.{arith}
 use Rattle.committee.specs.Answers.{as_new_committee}
 use Rattle.committee.proofs.Answers.{taken_sound, broken_sound}
@@ -12,7 +12,7 @@ use Rattle.store_spec.proofs.Check.{order_laid}
 use Rattle.store_spec.proofs.Loops.{entry_room, record-part}
 use Rattle.store_spec.proofs.Found.{found_stands}
 use Rattle.store_time.specs.Answers.{as_time_answer}
-use Rattle.store_time.proofs.Asked.{time_broken, time_disordered, time_answered, time_unknown, time_found}
+use Rattle.store_time.proofs.Asked.{given_time, time_broken, time_disordered, time_answered, time_unknown, time_found}
 use Rattle.store_time.proofs.creation_time.Goals as goal
 
 pub returns-in_default : goal.returns-in_default
@@ -24,16 +24,16 @@ returns-in_default c =
     (ap as_new_committee (sym c.in_default.is) ∙ c.new_committee.ensures))
 
 pub in_order-requires : goal.in_order-requires
-in_order-requires c = let a = c.args in (taken_sound a.stakes.now c.in-Taken.field-0
-    (ap as_new_committee (sym c.in-Taken.is) ∙ c.new_committee.ensures)).0
+in_order-requires c = let a = c.args in (taken_sound a.stakes.now c.in-Ok.field-0
+    (ap as_new_committee (sym c.in-Ok.is) ∙ c.new_committee.ensures)).0
 
 pub returns-then-not-in_order : goal.returns-then-not-in_order
 unfolding as_time_answer
 returns-then-not-in_order c =
     let a = c.args in
     time_disordered a.stakes.now a.store.now (as_reference a.reference)
-    (taken_sound a.stakes.now c.in-Taken.field-0
-    (ap as_new_committee (sym c.in-Taken.is) ∙ c.new_committee.ensures)).0
+    (taken_sound a.stakes.now c.in-Ok.field-0
+    (ap as_new_committee (sym c.in-Ok.is) ∙ c.new_committee.ensures)).0
     (sym c.in_order.ensures ∙ c.if-not-in_order.true)
 
 pub lookup-at-requires : goal.lookup-at-requires
@@ -48,8 +48,8 @@ returns-then-at-eq0 c =
     let order : store_in_order a.stakes.now a.store.now ≡ true = sym c.in_order.ensures ∙ c.if-not-in_order.false in
     let laid = order_laid a.stakes.now a.store.now order in
     time_answered a.stakes.now a.store.now (as_reference a.reference)
-    (taken_sound a.stakes.now c.in-Taken.field-0
-    (ap as_new_committee (sym c.in-Taken.is) ∙ c.new_committee.ensures)).0 order none
+    (taken_sound a.stakes.now c.in-Ok.field-0
+    (ap as_new_committee (sym c.in-Ok.is) ∙ c.new_committee.ensures)).0 order none
     (time_unknown a.store.now laid (as_reference a.reference) c.lookup-at.result c.lookup-at.ensures
     c.if-at-eq0.true)
 
@@ -94,9 +94,9 @@ creation_time-requires c =
     (found_stands a.store.now laid (as_reference a.reference) c.lookup-at.result
     c.lookup-at.ensures c.if-at-eq0.false)).formed
 
-pub returns-in-Given : goal.returns-in-Given
+pub returns : goal.returns
 unfolding as_time_answer as_time
-returns-in-Given c =
+returns c =
     let a = c.args in
     let order : store_in_order a.stakes.now a.store.now ≡ true = sym
     c.in_order.ensures ∙ c.if-not-in_order.false in
@@ -104,27 +104,10 @@ returns-in-Given c =
     let at = c.lookup-at.result in
     let part = record-part a.store.now at c.record_end-end.result
     c.record_end-end.ensures in
-    let told : time_in _ ≡ some c.in-Given.time = ap time_in (sym part) ∙ sym c.creation_time.ensures ∙ ap as_time
-    c.in-Given.is in
-    time_answered a.stakes.now a.store.now (as_reference a.reference)
-    (taken_sound a.stakes.now c.in-Taken.field-0
-    (ap as_new_committee (sym c.in-Taken.is) ∙ c.new_committee.ensures)).0 order
-    (some c.in-Given.time) (time_found a.store.now laid (as_reference a.reference) at
+    let told : time_in _ ≡ as_time c.creation_time.result = ap time_in (sym part) ∙ sym c.creation_time.ensures in
+    given_time c.creation_time.result
+    ∙ time_answered a.stakes.now a.store.now (as_reference a.reference)
+    (taken_sound a.stakes.now c.in-Ok.field-0
+    (ap as_new_committee (sym c.in-Ok.is) ∙ c.new_committee.ensures)).0 order
+    (as_time c.creation_time.result) (time_found a.store.now laid (as_reference a.reference) at
     c.lookup-at.ensures c.if-at-eq0.false ∙ told)
-
-pub returns-in-NotGiven : goal.returns-in-NotGiven
-unfolding as_time_answer as_time
-returns-in-NotGiven c =
-    let a = c.args in
-    let order : store_in_order a.stakes.now a.store.now ≡ true = sym
-    c.in_order.ensures ∙ c.if-not-in_order.false in
-    let laid = order_laid a.stakes.now a.store.now order in
-    let at = c.lookup-at.result in
-    let part = record-part a.store.now at c.record_end-end.result c.record_end-end.ensures
-    in
-    let told : time_in _ ≡ none = ap time_in (sym part) ∙ sym c.creation_time.ensures ∙ ap as_time c.in-NotGiven.is in
-    time_answered a.stakes.now a.store.now (as_reference a.reference)
-    (taken_sound a.stakes.now c.in-Taken.field-0
-    (ap as_new_committee (sym c.in-Taken.is) ∙ c.new_committee.ensures)).0 order (none)
-    (time_found a.store.now laid (as_reference a.reference) at c.lookup-at.ensures
-    c.if-at-eq0.false ∙ told)

@@ -7,6 +7,3 @@ use Rattle.words.proofs.words_of.Given as goal
 
 abbrev pub invariant-loop-i : goal.invariant-loop-i
 invariant-loop-i l = (l.i ≤ length l.initial.words) × ((length l.words ≡ length l.initial.words) × (l.words ≡ sets l.initial.words 0 (words_in l.i l.bytes)))
-
-abbrev pub decreases-loop-i : goal.decreases-loop-i
-decreases-loop-i l = length l.initial.words - l.i

@@ -15,19 +15,19 @@ returns-in_default c =
 
 pub in_order-requires : goal.in_order-requires
 in_order-requires c =
-    (taken_sound c.args.stakes.now c.in-Taken.total c.in-Taken.ensures).0
+    (taken_sound c.args.stakes.now c.in-Ok.total c.in-Ok.ensures).0
 
 pub returns-then-not-in_order : goal.returns-then-not-in_order
 returns-then-not-in_order c =
     let start = c.args in
-    let taken = taken_sound start.stakes.now c.in-Taken.total c.in-Taken.ensures in
+    let taken = taken_sound start.stakes.now c.in-Ok.total c.in-Ok.ensures in
     refused_sound _ _ _ c.refused-then-not-in_order.ensures ∙ sym (add_disordered _ _ _ taken.0
     (sym c.in_order.ensures ∙ c.if-not-in_order.true))
 
 pub returns-in_default-get_stake : goal.returns-in_default-get_stake
 returns-in_default-get_stake c =
     let start = c.args in
-    let taken = taken_sound start.stakes.now c.in-Taken.total c.in-Taken.ensures in
+    let taken = taken_sound start.stakes.now c.in-Ok.total c.in-Ok.ensures in
     let ordered = sym c.in_order.ensures ∙ c.if-not-in_order.false in
     let unknown = unknown_sound start.stakes.now start.vote.0 (sym c.get_stake.ensures ∙ c.in_default-get_stake.is) in
     refused_sound _ _ _ c.refused-in_default-get_stake.ensures ∙ sym (add_unknown _ _ _ taken.0 ordered unknown)
@@ -35,9 +35,9 @@ returns-in_default-get_stake c =
 pub with_vote-next-requires : goal.with_vote-next-requires
 with_vote-next-requires c =
     let start = c.args in
-    let taken = taken_sound start.stakes.now c.in-Taken.total c.in-Taken.ensures in
+    let taken = taken_sound start.stakes.now c.in-Ok.total c.in-Ok.ensures in
     let ordered = sym c.in_order.ensures ∙ c.if-not-in_order.false in
-    let knows = known_sound start.stakes.now start.vote.0 c.in-Known.stake (sym c.in-Known.ensures) in
+    let knows = known_sound start.stakes.now start.vote.0 c.in-Some.stake (sym c.in-Some.ensures) in
     let fits = vote_fits start.stakes.now (as_aggregator start.self) start.vote.0 taken.0 ordered knows.0 in
     (fits.0, rw knows.1 fits.1)
 
@@ -45,9 +45,9 @@ pub returns : goal.returns
 unfolding counted is_quorum
 returns c =
     let start = c.args in
-    let taken = taken_sound start.stakes.now c.in-Taken.total c.in-Taken.ensures in
+    let taken = taken_sound start.stakes.now c.in-Ok.total c.in-Ok.ensures in
     let ordered = sym c.in_order.ensures ∙ c.if-not-in_order.false in
-    let knows = known_sound start.stakes.now start.vote.0 c.in-Known.stake (sym c.in-Known.ensures) in
+    let knows = known_sound start.stakes.now start.vote.0 c.in-Some.stake (sym c.in-Some.ensures) in
     let next = c.with_vote-next.result in
     added_sound start.stakes.now (as_aggregator start.self) start.vote.0 next c.told.result taken.0 ordered knows.0
     (c.with_vote-next.ensures ∙ rw knows.1)
